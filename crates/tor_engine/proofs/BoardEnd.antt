@@ -20,9 +20,11 @@ use Rattle.tor_source.specs.Source.{SourceFacts}
 use Rattle.tor_sums.specs.Fault.{IsFault, first_of}
 use Rattle.tor_sums.specs.declared.errors.EngineError.{EngineError}
 use Rattle.tor_engine.specs.declared.failure.Failure.{Failure}
+use Rattle.tor_engine.specs.declared.failure.Failure.TheVariants.{AtUnit, Memory}
 use Rattle.tor_sums.specs.steps.Each.{SumUpEach}
 use Rattle.tor_sums.specs.steps.Places.{AreNumbers}
 use Rattle.tor_sums.specs.steps.Roots.{root_of_run, roots_of_trees}
+use Rattle.tor_engine.specs.steps.Failing.{error_of}
 use Rattle.tor_engine.specs.steps.Taken.{AnswersSeat, IsIn, IsSumOf, given_pairs, pair_in, unit_at}
 use Rattle.tor_engine.proofs.Counts.{each_mapped, each_more, each_with}
 use Rattle.tor_engine.proofs.CountedNumbers.{numbers_of_counts}
@@ -131,11 +133,10 @@ module _ {F A : Type 0} (number_in : A → ℕ) (hash_in : A → List ℕ) (sums
 
   pub least_fault : (failure : Failure F)
       → AnswersSeat number_in hash_in sums_up is_steady fault may_be units old new (Err failure)
-      → (facts : SourceFacts F) → is_steady facts → IsFault (first_of (fault facts) units) failure.error
-  least_fault failure answers facts steady = elim (answers.steady facts steady) [
-    | inl memory ↦ inl memory
-    | inr is ↦ inr (at_least least least_is refl is)
-  ]
+      → (facts : SourceFacts F) → is_steady facts → IsFault (first_of (fault facts) units) (error_of failure)
+  least_fault Memory answers facts steady = inl refl
+  least_fault (AtUnit failure) answers facts steady =
+      inr (at_least least least_is refl (answers.steady facts steady))
     where
       at_least : (o : Option ℕ) → MatchOption o (new.failed ≡ []) (IsLeastOf new.failed) → least ≡ o
           → IsLeastOf new.failed failure.unit × (failure.unit < length units)

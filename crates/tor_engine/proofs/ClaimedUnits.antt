@@ -12,8 +12,8 @@ use Rattle.tor_plan.specs.declared.units.PlanUnit.{PlanUnit}
 use Rattle.tor_source.specs.Source.{SourceFacts}
 use Rattle.tor_sums.specs.Fault.{IsFault}
 use Rattle.tor_sums.specs.declared.errors.EngineError.{EngineError}
-use Rattle.tor_engine.specs.declared.failure.Failure.{Failure}
-use Rattle.tor_engine.specs.declared.taken.Taken.{Taken}
+use Rattle.tor_engine.specs.declared.failure.UnitFailure.{UnitFailure}
+use Rattle.tor_engine.specs.declared.shares.Share.{Share}
 use Rattle.tor_sums.specs.declared.owing.OwingSums.{OwingSums}
 use Rattle.tor_sums.specs.steps.Each.{SumUpEach}
 use Rattle.tor_engine.specs.steps.Taken.{GivesUnit, HasGiven, IsAny, IsIdle, IsOfGiven, IsSumOf, TakesUnits}
@@ -86,19 +86,19 @@ module _ {F A : Type 0} (number_in : A → ℕ) (hash_in : A → List ℕ) (sums
   pair = pair_in number_in hash_in
 
   -- a worker took these so far, and holds none
-  pub record IsTaking (now : Desk) (taken : Taken A) : Type 0 where
+  pub record IsTaking (now : Desk) (share : Share A) : Type 0 where
     pub news : List GivenUnit
     pub has : HasGiven is_steady fault units old now news
     pub none : now.failed ≡ []
-    pub of : IsOfGiven number_in hash_in sums_up units old now news taken
+    pub of : IsOfGiven number_in hash_in sums_up units old now news share
     pub distinct : IsDistinct eqb (units_of news)
 
-  abbrev Takes : Desk → Result (Taken A) (Failure F) → Type 0
+  abbrev Takes : Desk → Result (Share A) (UnitFailure F) → Type 0
   Takes new result = TakesUnits number_in hash_in sums_up is_steady fault may_be units old new result
 
-  pub takes_none : (taken : Taken A) → IsIdle old → taken.sums.items ≡ [] → taken.tops.items ≡ [] → IsTaking old taken
+  pub takes_none : (share : Share A) → IsIdle old → share.units.items ≡ [] → share.tops.items ≡ [] → IsTaking old share
   unfolding IsDistinct
-  takes_none taken idle no_sums no_tops = record {
+  takes_none share idle no_sums no_tops = record {
     news = [];
     has = record { room = refl; held = idle.0; given = refl; within = tt; faultless = λ facts steady. tt };
     none = idle.1;
@@ -111,9 +111,9 @@ module _ {F A : Type 0} (number_in : A → ℕ) (hash_in : A → List ℕ) (sums
   }
 
   -- they are at most as many as the units
-  pub taken_few : (now : Desk) (taken : Taken A) (is : IsTaking now taken)
+  pub taken_few : (now : Desk) (share : Share A) (is : IsTaking now share)
       → length now.given ≤ length units + length old.given
-  taken_few now taken is =
+  taken_few now share is =
       let some = few (units_of is.news) (length units) is.distinct (units_below (length units) is.news is.has.within) in
       omega (
         arith,
@@ -123,7 +123,7 @@ module _ {F A : Type 0} (number_in : A → ℕ) (hash_in : A → List ℕ) (sums
         length-append is.news old.given,
       )
 
-  module _ (now : Desk) (taken : Taken A) (is : IsTaking now taken) (number : ℕ) (there : number < length units)
+  module _ (now : Desk) (share : Share A) (is : IsTaking now share) (number : ℕ) (there : number < length units)
       (new_one : names number now ≡ 0) where
     abbrev mid : Desk
     mid = holding now number
@@ -135,8 +135,8 @@ module _ {F A : Type 0} (number_in : A → ℕ) (hash_in : A → List ℕ) (sums
         omega (arith, new_one, all, given_before number is.news)
 
     -- one more is given
-    module _ (new : Desk) (after : Taken A)
-        (gives : GivesUnit number_in hash_in sums_up units number mid new taken after)
+    module _ (new : Desk) (after : Share A)
+        (gives : GivesUnit number_in hash_in sums_up units number mid new share after)
         (holds : (facts : SourceFacts F) → is_steady facts → fault facts (unit_at units number) ≡ None) where
       abbrev given : GivenUnit
       given = record { unit = number; hash = hash_in gives.one; joined = gives.joined }
@@ -159,12 +159,12 @@ module _ {F A : Type 0} (number_in : A → ℕ) (hash_in : A → List ℕ) (sums
         none = of_new (λ (d : Desk). d.failed) ∙ is.none;
         of = record {
           order = ap₂ (λ p ps. p ∷ ps) (ap (λ n. (n, hash_in gives.one)) (sym gives.numbered)) is.of.order
-              ∙ sym (ap reverse (ap (map pair) gives.sums ∙ map-append pair taken.sums.items (gives.one ∷ []))
-              ∙ reverse-append (map pair taken.sums.items) (pair gives.one ∷ []));
+              ∙ sym (ap reverse (ap (map pair) gives.sums ∙ map-append pair share.units.items (gives.one ∷ []))
+              ∙ reverse-append (map pair share.units.items) (pair gives.one ∷ []));
           tops = of_new (λ (d : Desk). d.tops) ∙ ap (λ ts. told gives.top ++ ts) is.of.tops
               ∙ sym (ap (λ ts. reverse ts ++ old.tops) gives.tops ∙ tops_more gives.top);
           summed = subst (AllByRecursion (IsSumOf number_in sums_up units)) (sym gives.sums)
-              (each_append (IsSumOf number_in sums_up units) taken.sums.items (gives.one ∷ []) is.of.summed (
+              (each_append (IsSumOf number_in sums_up units) share.units.items (gives.one ∷ []) is.of.summed (
                 (subst (λ (n : ℕ). (n < length units) × sums_up (unit_at units n) gives.one) (sym gives.numbered)
                     (there, gives.summed)),
                 tt,
@@ -173,13 +173,13 @@ module _ {F A : Type 0} (number_in : A → ℕ) (hash_in : A → List ℕ) (sums
         distinct = (none_of number (units_of is.news) fresh_number, is.distinct);
       }
         where
-          tops_more : (top : Option (ℕ × List ℕ)) → reverse (taken.tops.items ++ told top) ++ old.tops
-              ≡ told top ++ (reverse taken.tops.items ++ old.tops)
-          tops_more None = ap (λ ts. reverse ts ++ old.tops) (append-nil taken.tops.items)
-          tops_more (Some top) = ap (λ ts. ts ++ old.tops) (reverse-append taken.tops.items (top ∷ []))
+          tops_more : (top : Option (ℕ × List ℕ)) → reverse (share.tops.items ++ told top) ++ old.tops
+              ≡ told top ++ (reverse share.tops.items ++ old.tops)
+          tops_more None = ap (λ ts. reverse ts ++ old.tops) (append-nil share.tops.items)
+          tops_more (Some top) = ap (λ ts. ts ++ old.tops) (reverse-append share.tops.items (top ∷ []))
 
     -- it fails
-    pub takes_failed : (new : Desk) (failure : Failure F) → new ≡ failing mid number → failure.unit ≡ number
+    pub takes_failed : (new : Desk) (failure : UnitFailure F) → new ≡ failing mid number → failure.unit ≡ number
         → ((facts : SourceFacts F) → is_steady facts → IsFault (fault facts (unit_at units number)) failure.error)
         → may_be failure.error → Takes new (Err failure)
     takes_failed new failure is_new unit faults may = record {
@@ -202,8 +202,8 @@ module _ {F A : Type 0} (number_in : A → ℕ) (hash_in : A → List ℕ) (sums
     }
 
   -- no unit is left, or some worker failed one
-  pub takes_all : (now new : Desk) (taken : Taken A) → IsTaking now taken → new ≡ finished now → Takes new (Ok taken)
-  takes_all now new taken is is_new = record {
+  pub takes_all : (now new : Desk) (share : Share A) → IsTaking now share → new ≡ finished now → Takes new (Ok share)
+  takes_all now new share is is_new = record {
     news = is.news;
     has = record {
       room = ap (λ (d : Desk). d.room) is_new ∙ is.has.room;
@@ -229,13 +229,13 @@ module _ {F A : Type 0} (number_in : A → ℕ) (hash_in : A → List ℕ) (sums
 -- what was taken, once it is complete
 pub taking_complete : {F A : Type 0} (number_in : A → ℕ) (hash_in : A → List ℕ) (sums_up : PlanUnit → A → Type 0)
     (is_steady : SourceFacts F → Type 0) (fault : SourceFacts F → PlanUnit → Option (EngineError F))
-    (may_be : EngineError F → Type 0) (units : List PlanUnit) (old now : Desk) (taken after : Taken A)
-    → IsTaking number_in hash_in IsAny is_steady fault may_be units old now taken
-    → after.tops.items ≡ taken.tops.items
-    → map (pair_in number_in hash_in) after.sums.items ≡ map (pair_in number_in hash_in) taken.sums.items
-    → AllByRecursion (IsSumOf number_in sums_up units) after.sums.items
+    (may_be : EngineError F → Type 0) (units : List PlanUnit) (old now : Desk) (share after : Share A)
+    → IsTaking number_in hash_in IsAny is_steady fault may_be units old now share
+    → after.tops.items ≡ share.tops.items
+    → map (pair_in number_in hash_in) after.units.items ≡ map (pair_in number_in hash_in) share.units.items
+    → AllByRecursion (IsSumOf number_in sums_up units) after.units.items
     → IsTaking number_in hash_in sums_up is_steady fault may_be units old now after
-taking_complete number_in hash_in sums_up is_steady fault may_be units old now taken after is tops same summed =
+taking_complete number_in hash_in sums_up is_steady fault may_be units old now share after is tops same summed =
     record {
       news = is.news;
       has = is.has;
@@ -251,7 +251,7 @@ taking_complete number_in hash_in sums_up is_steady fault may_be units old now t
 -- of an error it does not matter what was summed
 pub takes_as : {F A : Type 0} (number_in : A → ℕ) (hash_in : A → List ℕ) (one other : PlanUnit → A → Type 0)
     (is_steady : SourceFacts F → Type 0) (fault : SourceFacts F → PlanUnit → Option (EngineError F))
-    (may_be : EngineError F → Type 0) (units : List PlanUnit) (old new : Desk) (failure : Failure F)
+    (may_be : EngineError F → Type 0) (units : List PlanUnit) (old new : Desk) (failure : UnitFailure F)
     → TakesUnits number_in hash_in one is_steady fault may_be units old new (Err failure)
     → TakesUnits number_in hash_in other is_steady fault may_be units old new (Err failure)
 takes_as number_in hash_in one other is_steady fault may_be units old new failure is = record {

@@ -1,16 +1,18 @@
 -- The first of numbered units that fails, and of two halves of them.
-use Rattle.std.proofs.Common.{◌≡◌, ◌⊎◌, ◌<◌, ◌≤◌, ℕ, suc, ◌+◌, List, [], ◌∷◌, ◌++◌, length, take, get_or, min, Option}
-use Rattle.std.proofs.Common.{None, Some, option_map, unwrap_or, inl, inr, refl, ap, sym, ◌∙◌, arith}
+use Rattle.std.proofs.Common.{◌≡◌, ◌<◌, ◌≤◌, ℕ, suc, ◌+◌, List, [], ◌∷◌, ◌++◌, length, take, get_or, Option, None}
+use Rattle.std.proofs.Common.{Some, true, nat_le, inl, inr, option_map, unwrap_or, refl, ap, sym, ◌∙◌, arith, if◌then◌else◌}
 use Rattle.std.specs.List.{enumerate_from}
+use Rattle.std.proofs.lemmas.Bool.{le-leb}
 use Rattle.std.proofs.lemmas.List.{take_all}
 use Rattle.std.proofs.lemmas.List.FromFn.{get_or-enumerate_from, length-enumerate_from}
 use Rattle.std.specs.Option.{option_or}
 use Rattle.tor_plan.specs.declared.units.PlanUnit.{PlanUnit}
-use Rattle.tor_sums.specs.Fault.{first_of}
+use Rattle.tor_sums.specs.Fault.{IsFault, first_of}
 use Rattle.tor_sums.specs.declared.errors.EngineError.{EngineError}
-use Rattle.tor_sums.specs.declared.errors.EngineError.TheVariants.{Resources}
 use Rattle.tor_engine.specs.declared.failure.Failure.{Failure}
-use Rattle.tor_engine.specs.steps.Failing.{IsFailure, failure_of, first_failure}
+use Rattle.tor_engine.specs.declared.failure.Failure.TheVariants.{AtUnit, Memory}
+use Rattle.tor_engine.specs.declared.failure.UnitFailure.{UnitFailure}
+use Rattle.tor_engine.specs.steps.Failing.{IsFailure, error_of, failure_of, first_failure, least_of}
 use Rattle.tor_sums.proofs.FirstOf.{first_append, first_at, first_next, or_none, or_some}
 
 numbered_append : {X : Type 0} (n : ℕ) (xs ys : List X)
@@ -23,7 +25,7 @@ numbered_append n (x ∷ xs) ys =
 
 module _ {F : Type 0} where
   -- the first number, or one of the others
-  here_or_later : (n count : ℕ) (fault : Option (EngineError F)) (rest : Option (Failure F)) (failure : Failure F)
+  here_or_later : (n count : ℕ) (fault : Option (EngineError F)) (rest : Option (UnitFailure F)) (failure : UnitFailure F)
       → option_or (option_map (λ error. record { unit = n; error = error }) fault) rest ≡ Some failure
       → (rest ≡ Some failure → (n + 1 ≤ failure.unit) × (failure.unit < (n + 1) + count))
       → (n ≤ failure.unit) × (failure.unit < n + suc count)
@@ -34,14 +36,14 @@ module _ {F : Type 0} where
       let same : n ≡ failure.unit = ap (λ o. unwrap_or (option_map (λ f. f.unit) o) n) is in
       (omega (arith, same), omega (arith, same))
 
-  same_fault : (n : ℕ) (fault : Option (EngineError F)) (rest : Option (Failure F))
+  same_fault : (n : ℕ) (fault : Option (EngineError F)) (rest : Option (UnitFailure F))
       → option_map (λ f. f.error) (option_or (option_map (λ error. record { unit = n; error = error }) fault) rest)
       ≡ option_or fault (option_map (λ f. f.error) rest)
   same_fault n None rest = refl
   same_fault n (Some error) rest = refl
 
   module _ (fault : PlanUnit → Option (EngineError F)) where
-    in_range : (n : ℕ) (units : List PlanUnit) (failure : Failure F) → first_failure fault n units ≡ Some failure
+    in_range : (n : ℕ) (units : List PlanUnit) (failure : UnitFailure F) → first_failure fault n units ≡ Some failure
         → (n ≤ failure.unit) × (failure.unit < n + length units)
     unfolding first_of
     in_range n [] failure is = cc
@@ -57,6 +59,12 @@ module _ {F : Type 0} where
     fault_of_failure n (unit ∷ units) =
         same_fault n (fault unit) (first_failure fault (n + 1) units)
         ∙ ap (option_or (fault unit)) (fault_of_failure (n + 1) units)
+
+    pub fault_of_stop : (n : ℕ) (units : List PlanUnit) (failure : Failure F)
+        → IsFailure (first_failure fault n units) failure → IsFault (first_of fault units) (error_of failure)
+    fault_of_stop n units Memory is = inl refl
+    fault_of_stop n units (AtUnit failure) is =
+        inr (sym (fault_of_failure n units) ∙ ap (option_map (λ f. f.error)) is)
 
     failure_append : (n : ℕ) (xs ys : List PlanUnit) → first_failure fault n (xs ++ ys)
         ≡ option_or (first_failure fault n xs) (first_failure fault (n + length xs) ys)
@@ -97,23 +105,13 @@ module _ {F : Type 0} where
         ap (first_of (failure_of fault))
         (sym (take_all i (enumerate_from n units) (omega (arith, all, length-enumerate_from n units)))) ∙ none
 
-    -- the lesser unit of two is in the first half
-    lesser : (n : ℕ) (xs ys : List PlanUnit) (one other least : Failure F) → first_failure fault n xs ≡ Some one
-        → first_failure fault (n + length xs) ys ≡ Some other → (least ≡ one) ⊎ (least ≡ other)
-        → least.unit ≡ min one.unit other.unit → least ≡ one
-    lesser n xs ys one other least is_one is_other (inl same) unit = same
-    lesser n xs ys one other least is_one is_other (inr same) unit =
-        let low = in_range n xs one is_one in
-        let high = in_range (n + length xs) ys other is_other in
-        absurd (omega (arith, low.1, high.0, unit, ap (λ f. f.unit) same))
-
-    -- the first half fails, or the second alone, or none
+    -- the first half fails, or the second alone, or both
     pub first_fails : (n : ℕ) (xs ys : List PlanUnit) (failure : Failure F)
         → IsFailure (first_failure fault n xs) failure → IsFailure (first_failure fault n (xs ++ ys)) failure
-    first_fails n xs ys failure (inl resources) = inl resources
-    first_fails n xs ys failure (inr is) =
-        inr (failure_append n xs ys
-        ∙ or_some (first_failure fault n xs) (first_failure fault (n + length xs) ys) failure is)
+    first_fails n xs ys Memory is = tt
+    first_fails n xs ys (AtUnit failure) is =
+        failure_append n xs ys
+        ∙ or_some (first_failure fault n xs) (first_failure fault (n + length xs) ys) failure is
 
     pub second_decides : (n : ℕ) (xs ys : List PlanUnit) → first_failure fault n xs ≡ None
         → first_failure fault n (xs ++ ys) ≡ first_failure fault (n + length xs) ys
@@ -121,15 +119,13 @@ module _ {F : Type 0} where
         failure_append n xs ys
         ∙ or_none (first_failure fault n xs) (first_failure fault (n + length xs) ys) none
 
-    pub both_fail : (n : ℕ) (xs ys : List PlanUnit) (one other least : Failure F)
+    pub both_fail : (n : ℕ) (xs ys : List PlanUnit) (one other : Failure F)
         → IsFailure (first_failure fault n xs) one → IsFailure (first_failure fault (n + length xs) ys) other
-        → (least ≡ one) ⊎ (least ≡ other) → ((one.error ≡ Resources) ⊎ (other.error ≡ Resources)
-        → least.error ≡ Resources) → (least.error ≡ Resources) ⊎ (least.unit ≡ min one.unit other.unit)
-        → IsFailure (first_failure fault n (xs ++ ys)) least
-    both_fail n xs ys one other least (inl memory) second either memory_first unit = inl (memory_first (inl memory))
-    both_fail n xs ys one other least (inr is) (inl memory) either memory_first unit =
-        inl (memory_first (inr memory))
-    both_fail n xs ys one other least (inr is) (inr is_other) either memory_first (inl memory) = inl memory
-    both_fail n xs ys one other least (inr is) (inr is_other) either memory_first (inr unit) =
-        let same = lesser n xs ys one other least is is_other either unit in
-        first_fails n xs ys least (inr (is ∙ ap Some (sym same)))
+        → IsFailure (first_failure fault n (xs ++ ys)) (least_of one other)
+    both_fail n xs ys Memory other is is_other = tt
+    both_fail n xs ys (AtUnit one) Memory is is_other = tt
+    both_fail n xs ys (AtUnit one) (AtUnit other) is is_other =
+        let low = in_range n xs one is in
+        let high = in_range (n + length xs) ys other is_other in
+        let lesser : nat_le one.unit other.unit ≡ true = le-leb _ _ (omega (arith, low.1, high.0)) in
+        first_fails n xs ys (AtUnit one) is ∙ ap (λ b. Some (if b then one else other)) (sym lesser)

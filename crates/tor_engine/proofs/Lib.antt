@@ -24,6 +24,7 @@ pub mod RunRoots
 pub mod SameRows
 pub mod SeatAnswers
 pub mod SharedContents
+pub mod Stopping
 pub mod Told
 pub mod ToldContents
 pub mod UnitRuns

@@ -1,6 +1,8 @@
 -- What workers did from one seat, and from two that are joined.
-use Rattle.std.proofs.Common.{◌≡◌, ◌⊎◌, ◌<◌, ◌≤◌, ℕ, ◌+◌, ◌-◌, ◌/◌, List, [], ◌++◌, length, Option, None, Some, Result}
-use Rattle.std.proofs.Common.{Ok, Err, Vec, inl, inr, ap, ap₂, sym, subst, ◌∙◌, arith, ◌||◌, append-nil}
+use Rattle.std.proofs.Common.{◌≡◌, ◌<◌, ℕ, ◌+◌, ◌-◌, ◌/◌, Bool, true, false, nat_le, List, [], ◌++◌, length, Option}
+use Rattle.std.proofs.Common.{None, Result, Ok, Err, Vec, refl, ap, ap₂, sym, subst, ◌∙◌, arith, ◌||◌, append-nil}
+use Rattle.std.proofs.Common.{if◌then◌else◌}
+use Rattle.std.proofs.lemmas.Bool.{leb-false, leb-true}
 use Rattle.std.proofs.lemmas.List.{append_assoc}
 use Rattle.std.specs.declared.alloc.Global.{Global}
 use Rattle.std.specs.List.{AllByRecursion}
@@ -11,12 +13,15 @@ use Rattle.tor_source.specs.Source.{SourceFacts}
 use Rattle.tor_sums.specs.declared.errors.EngineError.{EngineError}
 use Rattle.tor_sums.specs.declared.errors.EngineError.TheVariants.{Resources}
 use Rattle.tor_engine.specs.declared.failure.Failure.{Failure}
-use Rattle.tor_engine.specs.declared.taken.Taken.{Taken}
-use Rattle.tor_engine.specs.steps.Failing.{AreJoined}
-use Rattle.tor_engine.specs.steps.Taken.{AnswersSeat, AreOfGiven, AreSumsOfTaken, HasGiven, IsSumOf, TakesUnits}
-use Rattle.tor_engine.specs.steps.Taken.{unit_at}
+use Rattle.tor_engine.specs.declared.failure.Failure.TheVariants.{AtUnit, Memory}
+use Rattle.tor_engine.specs.declared.failure.UnitFailure.{UnitFailure}
+use Rattle.tor_engine.specs.declared.shares.Share.{Share}
+use Rattle.tor_engine.specs.steps.Failing.{AreJoined, both_of, error_of, least_of}
+use Rattle.tor_engine.specs.steps.Taken.{AnswersSeat, AreOfGiven, HasGiven, IsLeastFailure, IsSumOf, TakesUnits}
+use Rattle.tor_engine.specs.steps.Taken.{unit_at, without_tops}
 use Rattle.tor_engine.proofs.Counts.{each_append}
 use Rattle.tor_engine.proofs.GivenInOrder.{both_of_given, least_of_both, least_of_one, least_of_second, of_given}
+use Rattle.tor_engine.proofs.Stopping.{error_stays, of_least, stops}
 
 module _ {F A : Type 0} (number_in : A → ℕ) (hash_in : A → List ℕ) (sums_up : PlanUnit → A → Type 0)
     (is_steady : SourceFacts F → Type 0) (fault : SourceFacts F → PlanUnit → Option (EngineError F))
@@ -25,37 +30,34 @@ module _ {F A : Type 0} (number_in : A → ℕ) (hash_in : A → List ℕ) (sums
   Answers old new result = AnswersSeat number_in hash_in sums_up is_steady fault may_be units old new result
 
   -- one worker
-  pub seat_answers : (old new : Desk) (taken : Result (Taken A) (Failure F))
-      (result : Result (Vec A Global) (Failure F)) → AreSumsOfTaken taken result
-      → TakesUnits number_in hash_in sums_up is_steady fault may_be units old new taken → Answers old new result
-  seat_answers old new (Ok taken) result is takes =
-      subst (λ (r : Result (Vec A Global) (Failure F)). Answers old new r) (sym is) (record {
-        news = takes.news;
-        has = takes.has;
-        took = (
-          takes.took.0,
-          takes.took.1,
-          of_given number_in hash_in takes.news taken.sums.items takes.took.2.order,
-          takes.took.2.summed,
-        );
-        steady = λ facts steady. _;
-        gave = _;
-      })
-  seat_answers old new (Err failure) result is takes =
-      subst (λ (r : Result (Vec A Global) (Failure F)). Answers old new r) (sym is) (record {
-        news = takes.news;
-        has = takes.has;
-        took = _;
-        steady = λ facts steady. elim (takes.steady facts steady) [
-          | inl memory ↦ inl memory
-          | inr is ↦ inr (
-            subst (λ (xs : List ℕ). IsLeastOf xs failure.unit) (sym takes.failed.0) (least_of_one failure.unit),
-            takes.failed.1,
-            is,
-          )
-        ];
-        gave = takes.gave;
-      })
+  pub seat_answers : (old new : Desk) (share : Result (Share A) (UnitFailure F))
+      → TakesUnits number_in hash_in sums_up is_steady fault may_be units old new share
+      → Answers old new (without_tops share)
+  seat_answers old new (Ok share) takes = record {
+    news = takes.news;
+    has = takes.has;
+    took = (
+      takes.took.0,
+      takes.took.1,
+      of_given number_in hash_in takes.news share.units.items takes.took.2.order,
+      takes.took.2.summed,
+    );
+    steady = λ facts steady. _;
+    gave = _;
+  }
+  seat_answers old new (Err failure) takes = record {
+    news = takes.news;
+    has = takes.has;
+    took = _;
+    steady = λ facts steady.
+        stops failure _ refl (IsLeastFailure (fault facts) units new.failed) tt (takes.steady facts steady)
+        (λ is. (
+          subst (λ (xs : List ℕ). IsLeastOf xs failure.unit) (sym takes.failed.0) (least_of_one failure.unit),
+          takes.failed.1,
+          is,
+        ));
+    gave = subst may_be (sym (error_stays failure _ refl)) takes.gave;
+  }
 
   module _ (old one_old other_old new one_new other_new : Desk) (kept : one_old ≡ keeping old)
       (made : other_old ≡ fresh old) (bare : old.given ≡ []) (joined : new ≡ both one_new other_new) where
@@ -84,9 +86,46 @@ module _ {F A : Type 0} (number_in : A → ℕ) (hash_in : A → List ℕ) (sums
     failed_both : new.failed ≡ one_new.failed ++ other_new.failed
     failed_both = ap (λ (d : Desk). d.failed) joined
 
+    -- one of them stopped, or memory was refused
+    stopped : (one other result : Result (Vec A Global) (Failure F)) (failure : Failure F)
+        → Answers one_old one_new one → Answers other_old other_new other → result ≡ Err failure
+        → ((facts : SourceFacts F) → is_steady facts → IsLeastFailure (fault facts) units new.failed failure)
+        → may_be (error_of failure) → Answers old new result
+    stopped one other result failure first second is steady may =
+        subst (λ (r : Result (Vec A Global) (Failure F)). Answers old new r) (sym is) (record {
+          news = first.news ++ second.news;
+          has = given_both first.news second.news first.has second.has;
+          took = _;
+          steady = steady;
+          gave = may;
+        })
+
+    lesser : (facts : SourceFacts F) (one other : Failure F) → IsLeastFailure (fault facts) units one_new.failed one
+        → IsLeastFailure (fault facts) units other_new.failed other
+        → IsLeastFailure (fault facts) units new.failed (least_of one other)
+    lesser facts Memory other a b = tt
+    lesser facts (AtUnit one) Memory a b = tt
+    lesser facts (AtUnit one) (AtUnit other) a b = by_order (nat_le one.unit other.unit) refl
+      where
+        by_order : (le : Bool) → nat_le one.unit other.unit ≡ le
+            → IsLeastFailure (fault facts) units new.failed (AtUnit (if le then one else other))
+        by_order true is = (
+          subst (λ (xs : List ℕ). IsLeastOf xs one.unit) (sym failed_both)
+              (least_of_both one_new.failed other_new.failed one.unit other.unit a.0 b.0 (leb-true _ _ is)),
+          a.1,
+          a.2,
+        )
+        by_order false is = (
+          subst (λ (xs : List ℕ). IsLeastOf xs other.unit) (sym failed_both)
+              (least_of_second one_new.failed other_new.failed one.unit other.unit a.0 b.0
+              (let below = leb-false _ _ is in omega arith)),
+          b.1,
+          b.2,
+        )
+
     pub seats_answer : (one other result : Result (Vec A Global) (Failure F)) → Answers one_old one_new one
-        → Answers other_old other_new other → AreJoined one other result
-        → ((failure : Failure F) → failure.error ≡ Resources → may_be failure.error) → Answers old new result
+        → Answers other_old other_new other → AreJoined (both_of one other) result → may_be Resources
+        → Answers old new result
     seats_answer (Ok sums) (Ok next) (Ok all) first second is may = record {
       news = first.news ++ second.news;
       has = given_both first.news second.news first.has second.has;
@@ -103,84 +142,18 @@ module _ {F A : Type 0} (number_in : A → ℕ) (hash_in : A → List ℕ) (sums
       steady = λ facts steady. _;
       gave = _;
     }
-    seats_answer (Ok sums) (Ok next) (Err failure) first second is may = record {
-      news = first.news ++ second.news;
-      has = given_both first.news second.news first.has second.has;
-      took = _;
-      steady = λ facts steady. inl is;
-      gave = may failure is;
-    }
+    seats_answer (Ok sums) (Ok next) (Err failure) first second is may =
+        stopped (Ok sums) (Ok next) (Err failure) Memory first second (ap Err is) (λ facts steady. tt) may
     seats_answer (Ok sums) (Err failure) result first second is may =
-        subst (λ (r : Result (Vec A Global) (Failure F)). Answers old new r) (sym is) (record {
-          news = first.news ++ second.news;
-          has = given_both first.news second.news first.has second.has;
-          took = _;
-          steady = λ facts steady. elim (second.steady facts steady) [
-            | inl memory ↦ inl memory
-            | inr least ↦ inr (
-              subst (λ (xs : List ℕ). IsLeastOf xs failure.unit)
-                  (sym (failed_both ∙ ap (λ xs. xs ++ other_new.failed) first.took.1)) least.0,
-              least.1,
-              least.2,
-            )
-          ];
-          gave = second.gave;
-        })
+        stopped (Ok sums) (Err failure) result failure first second is
+        (λ facts steady. subst (λ (xs : List ℕ). IsLeastFailure (fault facts) units xs failure)
+        (sym (failed_both ∙ ap (λ xs. xs ++ other_new.failed) first.took.1)) (second.steady facts steady)) second.gave
     seats_answer (Err failure) (Ok next) result first second is may =
-        subst (λ (r : Result (Vec A Global) (Failure F)). Answers old new r) (sym is) (record {
-          news = first.news ++ second.news;
-          has = given_both first.news second.news first.has second.has;
-          took = _;
-          steady = λ facts steady. elim (first.steady facts steady) [
-            | inl memory ↦ inl memory
-            | inr least ↦ inr (
-              subst (λ (xs : List ℕ). IsLeastOf xs failure.unit)
-                  (sym (failed_both ∙ ap (λ xs. one_new.failed ++ xs) second.took.1
-                  ∙ append-nil one_new.failed)) least.0,
-              least.1,
-              least.2,
-            )
-          ];
-          gave = first.gave;
-        })
-    seats_answer (Err failure) (Err later) (Ok all) first second is may = absurd is
-    seats_answer (Err failure) (Err later) (Err least) first second is may = record {
-      news = first.news ++ second.news;
-      has = given_both first.news second.news first.has second.has;
-      took = _;
-      steady = λ facts steady. lesser facts (first.steady facts steady) (second.steady facts steady);
-      gave = elim is.either [
-        | inl same ↦ subst (λ (f : Failure F). may_be f.error) (sym same) first.gave
-        | inr same ↦ subst (λ (f : Failure F). may_be f.error) (sym same) second.gave
-      ];
-    }
-      where
-        IsLeast : SourceFacts F → Desk → Failure F → Type 0
-        IsLeast facts desk f = (f.error ≡ Resources) ⊎ (IsLeastOf desk.failed f.unit × (f.unit < length units)
-            × (fault facts (unit_at units f.unit) ≡ Some f.error))
-
-        lesser : (facts : SourceFacts F) → IsLeast facts one_new failure → IsLeast facts other_new later
-            → IsLeast facts new least
-        lesser facts (inl memory) second = inl (is.resources (inl memory))
-        lesser facts (inr a) (inl memory) = inl (is.resources (inr memory))
-        lesser facts (inr a) (inr b) = elim is.lesser [
-          | inl memory ↦ inl memory
-          | inr unit ↦ elim is.either [
-            | inl same ↦
-                let le : failure.unit ≤ later.unit = omega (arith, unit, ap (λ (f : Failure F). f.unit) same) in
-                subst (λ (f : Failure F). IsLeast facts new f) (sym same) (inr (
-                  subst (λ (xs : List ℕ). IsLeastOf xs failure.unit) (sym failed_both)
-                      (least_of_both one_new.failed other_new.failed failure.unit later.unit a.0 b.0 le),
-                  a.1,
-                  a.2,
-                ))
-            | inr same ↦
-                let le : later.unit ≤ failure.unit = omega (arith, unit, ap (λ (f : Failure F). f.unit) same) in
-                subst (λ (f : Failure F). IsLeast facts new f) (sym same) (inr (
-                  subst (λ (xs : List ℕ). IsLeastOf xs later.unit) (sym failed_both)
-                      (least_of_second one_new.failed other_new.failed failure.unit later.unit a.0 b.0 le),
-                  b.1,
-                  b.2,
-                ))
-          ]
-        ]
+        stopped (Err failure) (Ok next) result failure first second is
+        (λ facts steady. subst (λ (xs : List ℕ). IsLeastFailure (fault facts) units xs failure)
+        (sym (failed_both ∙ ap (λ xs. one_new.failed ++ xs) second.took.1 ∙ append-nil one_new.failed))
+        (first.steady facts steady)) first.gave
+    seats_answer (Err failure) (Err later) result first second is may =
+        stopped (Err failure) (Err later) result (least_of failure later) first second is
+        (λ facts steady. lesser facts failure later (first.steady facts steady) (second.steady facts steady))
+        (of_least (λ f. may_be (error_of f)) failure later first.gave second.gave)

@@ -1,6 +1,5 @@
 -- What workers answer for units, and for two halves of them.
-use Rattle.std.proofs.Common.{◌≡◌, ◌⊎◌, ℕ, ◌+◌, List, ◌++◌, Vec, length, min, Option, Result, Ok, Err, inl, inr}
-use Rattle.std.proofs.Common.{refl, sym, subst, ◌∙◌}
+use Rattle.std.proofs.Common.{◌≡◌, ℕ, ◌+◌, List, ◌++◌, Vec, length, Option, Result, Ok, Err, refl, sym, subst, ◌∙◌}
 use Rattle.std.specs.Prelude.{IsErrAnd}
 use Rattle.std.specs.declared.alloc.Global.{Global}
 use Rattle.tor_plan.specs.declared.units.PlanUnit.{PlanUnit}
@@ -8,8 +7,11 @@ use Rattle.tor_source.specs.Source.{SourceFacts}
 use Rattle.tor_sums.specs.declared.errors.EngineError.{EngineError}
 use Rattle.tor_sums.specs.declared.errors.EngineError.TheVariants.{Resources}
 use Rattle.tor_engine.specs.declared.failure.Failure.{Failure}
-use Rattle.tor_engine.specs.steps.Failing.{AnswersUnits, AreJoined, IsFailure}
+use Rattle.tor_engine.specs.declared.failure.Failure.TheVariants.{Memory}
+use Rattle.tor_engine.specs.declared.failure.UnitFailure.{UnitFailure}
+use Rattle.tor_engine.specs.steps.Failing.{AnswersUnits, AreJoined, IsFailure, both_of, error_of, least_of}
 use Rattle.tor_engine.proofs.Failing.{both_fail, first_fails, second_decides}
+use Rattle.tor_engine.proofs.Stopping.{of_least}
 
 module _ {W F X : Type 0} (sums_up : W → List PlanUnit → List X → Type 0) (is_steady : W → SourceFacts F → Type 0)
     (fault : W → SourceFacts F → PlanUnit → Option (EngineError F)) (may_be : W → EngineError F → Type 0) where
@@ -21,12 +23,13 @@ module _ {W F X : Type 0} (sums_up : W → List PlanUnit → List X → Type 0) 
       AnswersUnits (λ units sums. sums_up work units sums.items) (is_steady work) (fault work) (may_be work) n units
       result
 
-  -- resources were refused
+  -- memory was refused
   pub refused : (work : W) (n : ℕ) (units : List PlanUnit) (result : Result A (Failure F))
-      → IsErrAnd result (λ failure. failure.error ≡ Resources) → may_be work Resources → Answers work n units result
+      → IsErrAnd result (λ failure. failure ≡ Memory) → may_be work Resources → Answers work n units result
   refused work n units (Ok sums) is may = absurd is
   refused work n units (Err failure) is may =
-      record { summed = _; steady = λ facts steady. inl is; gave = subst (may_be work) (sym is) may }
+      subst (λ (f : Failure F). Answers work n units (Err f)) (sym is)
+      (record { summed = _; steady = λ facts steady. tt; gave = may })
 
   module _ (work first second : W) (n m k : ℕ) (all xs ys : List PlanUnit)
       (halves : first ≡ work × second ≡ work × all ≡ xs ++ ys × m ≡ n × k ≡ n + length xs)
@@ -69,7 +72,7 @@ module _ {W F X : Type 0} (sums_up : W → List PlanUnit → List X → Type 0) 
         whole (Err failure) (record {
           summed = _;
           steady = λ facts steady.
-              subst (λ (first : Option (Failure F)). IsFailure first failure)
+              subst (λ (first : Option (UnitFailure F)). IsFailure first failure)
               (sym (second_decides (fault work facts) n xs ys (before.steady facts steady)))
               (after.steady facts steady);
           gave = after.gave;
@@ -84,30 +87,25 @@ module _ {W F X : Type 0} (sums_up : W → List PlanUnit → List X → Type 0) 
           gave = before.gave;
         })
 
-    least_answers : (failure later least : Failure F) → r ≡ Err failure → s ≡ Err later
-        → (least ≡ failure) ⊎ (least ≡ later)
-        → ((failure.error ≡ Resources) ⊎ (later.error ≡ Resources) → least.error ≡ Resources)
-        → (least.error ≡ Resources) ⊎ (least.unit ≡ min failure.unit later.unit) → Answers work n all (Err least)
-    least_answers failure later least is_failure is_later either memory lesser =
+    least_answers : (failure later : Failure F) → r ≡ Err failure → s ≡ Err later
+        → Answers work n all (Err (least_of failure later))
+    least_answers failure later is_failure is_later =
         let before = one (Err failure) is_failure in
         let after = other (Err later) is_later in
-        whole (Err least) (record {
+        whole (Err (least_of failure later)) (record {
           summed = _;
           steady = λ facts steady.
-              both_fail (fault work facts) n xs ys failure later least (before.steady facts steady)
-              (after.steady facts steady) either memory lesser;
-          gave = elim either [
-            | inl is ↦ subst (λ (f : Failure F). may_be work f.error) (sym is) before.gave
-            | inr is ↦ subst (λ (f : Failure F). may_be work f.error) (sym is) after.gave
-          ];
+              both_fail (fault work facts) n xs ys failure later (before.steady facts steady)
+              (after.steady facts steady);
+          gave = of_least (λ f. may_be work (error_of f)) failure later before.gave after.gave;
         })
 
     -- both answered, or one stopped
-    pub joined_answers : (result : Result A (Failure F)) → AreJoined r s result → may_be work Resources
+    pub joined_answers : (result : Result A (Failure F)) → AreJoined (both_of r s) result → may_be work Resources
         → Answers work n all result
     joined_answers answer is_joined may = by_cases r s answer refl refl is_joined
       where
-        by_cases : (a b result : Result A (Failure F)) → r ≡ a → s ≡ b → AreJoined a b result
+        by_cases : (a b result : Result A (Failure F)) → r ≡ a → s ≡ b → AreJoined (both_of a b) result
             → Answers work n all result
         by_cases (Ok x) (Ok y) (Ok both) is_first is_second is = both_answer x y both is_first is_second is
         by_cases (Ok x) (Ok y) (Err f) is_first is_second is = refused work n all (Err f) is may
@@ -115,6 +113,5 @@ module _ {W F X : Type 0} (sums_up : W → List PlanUnit → List X → Type 0) 
             subst (λ (t : Result A (Failure F)). Answers work n all t) (sym is) (second_answers x g is_first is_second)
         by_cases (Err f) (Ok y) result is_first is_second is =
             subst (λ (t : Result A (Failure F)). Answers work n all t) (sym is) (first_answers f is_first)
-        by_cases (Err f) (Err g) (Ok both) is_first is_second is = absurd is
-        by_cases (Err f) (Err g) (Err least) is_first is_second is =
-            least_answers f g least is_first is_second is.either is.resources is.lesser
+        by_cases (Err f) (Err g) result is_first is_second is =
+            subst (λ (t : Result A (Failure F)). Answers work n all t) (sym is) (least_answers f g is_first is_second)

@@ -13,7 +13,7 @@ unit_pair sums = (sums.unit, sums.hash)
 
 -- what a worker gave and was told since it began. It is in the order of its gives, each unit with its hash; the seat's
 -- lists have the newest first, the share's the oldest (profile)
-pub record IsShareOf (old new : Desk) (share : Share) : Type 0 where
+pub record IsShareOf (old new : Desk) (share : Share UnitSums) : Type 0 where
   pub news : List GivenUnit
   pub given : new.given ≡ news ++ old.given
   pub units : given_pairs news ≡ reverse (map unit_pair share.units.items)

@@ -7,7 +7,7 @@
 //! - `units.rt` has the units of a plan hashed by one worker or by several. `halves.rt` shares work among workers,
 //!   whatever work it is. `turn.rt` so deals the units out beforehand, and each worker takes its own one after the
 //!   other; `seats.rt` gives each worker a seat at a board, from which it claims one unit after the other
-//!   (`taking.rt`, `taken.rt`), and `on_board.rt` puts what they took in the order of the units.
+//!   (`taking.rt`), and `on_board.rt` puts what they took in the order of the units.
 //!   `failure.rt` tells which of two faults is answered, `roots.rt` the roots of trees if no board does.
 //!   `unit_work.rt` says what a worker does with a unit; `sum_work.rt` does it for the sums of files, by `sum_unit` of
 //!   `tor_sums`.
@@ -49,7 +49,6 @@ mod roots;
 mod seats;
 mod shares;
 mod sum_work;
-mod taken;
 mod taking;
 mod turn;
 mod unit_work;

@@ -60,7 +60,7 @@ where
             let sums = in_order(work, sums);
             Ok((sums, closed.roots))
         }
-        Err(failure) => Err(failure.error),
+        Err(failure) => Err(failure.into_error()),
     }
 }
 

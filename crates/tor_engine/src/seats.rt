@@ -2,11 +2,11 @@
 ghost use Rattle.std.specs.Prelude.{◌≡◌, [], All, length};
 ghost use Rattle.tor_board.specs.Desks.{fresh, keeping};
 ghost use Rattle.tor_board.specs.Seats.{IsSeatOf, knows, unit_count};
-ghost use Rattle.tor_engine.specs.steps.Taken.{AnswersSeat, AreSumsOfTaken, IsIdle};
+ghost use Rattle.tor_engine.specs.steps.Taken.{AnswersSeat, IsIdle, without_tops};
 
-use crate::failure::{Failure, both_joined};
+use crate::failure::{Failure, UnitFailure, both_joined};
 use crate::halves::Divisible;
-use crate::taken::Taken;
+use crate::shares::Share;
 use crate::taking::take_units;
 use crate::unit_work::UnitWork;
 use tor_board::{Board, Seat};
@@ -89,11 +89,11 @@ where
             board,
             mut seat,
         } = self;
-        let taken = take_units(work, units, board, &mut seat);
+        let share = take_units(work, units, board, &mut seat);
         Seated {
             board,
             seat,
-            result: sums_of(taken),
+            result: without_tops(share),
         }
     }
 
@@ -111,11 +111,13 @@ where
 }
 
 /// What the units that a worker took sum up to. The board has the roots, so that the tops are of no more use.
-fn sums_of<T: Drop, F>(taken: Result<Taken<T>, Failure<F>>) -> Result<Vec<T>, Failure<F>>
-    ensures { AreSumsOfTaken taken result }
+fn without_tops<T: Drop, F: Drop>(
+    share: Result<Share<T>, UnitFailure<F>>,
+) -> Result<Vec<T>, Failure<F>>
+    ensures { result ≡ without_tops share }
 {
-    match taken {
-        Ok(taken) => Ok(taken.sums),
-        Err(failure) => Err(failure),
+    match share {
+        Ok(share) => Ok(share.units),
+        Err(failure) => Err(Failure::of(failure)),
     }
 }

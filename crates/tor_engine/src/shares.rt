@@ -1,17 +1,18 @@
-//! One worker's part of a plan that is shared at a board.
+//! One worker's part of units that are shared at a board.
 ghost use Rattle.std.specs.Prelude.{◌≡◌, ◌<◌, ◌++◌, [], ◌∷◌, true, All, IfErr, IfOk, List, OnOk, length, map};
 ghost use Rattle.tor_board.specs.Seats.{IsSeatOf, forest_of, knows, unit_count};
 ghost use Rattle.tor_source.specs.Source.{SourceFacts};
 ghost use Rattle.tor_sums.specs.Contents.{contents_in};
-ghost use Rattle.tor_board.specs.Desks.{GivenUnit};
+ghost use Rattle.tor_board.specs.Desks.{GivenUnit, told};
 ghost use Rattle.tor_sums.specs.Fault.{IsFault, unit_fault};
 ghost use Rattle.tor_sums.specs.Given.{IsGivenRead};
 ghost use Rattle.tor_engine.specs.Shares.{IsShareOf};
 ghost use Rattle.tor_sums.specs.UnitSums.{IsUnitSums, unit_at};
+ghost use Rattle.tor_engine.specs.steps.Taken.{HasRoom};
 
 use crate::sum_work::SumWork;
 use crate::taking::take_units;
-use std::alloc::Global;
+use std::alloc::{AllocError, Global};
 use tor_board::{Board, Seat};
 use tor_merkle::Hash;
 use tor_plan::Plan;
@@ -20,11 +21,47 @@ use tor_sums::{EngineError, UnitSums};
 
 /// What one worker did: both in the order in which it gave the units.
 #[derive(Debug, Drop)]
-pub struct Share {
+pub struct Share<T = UnitSums> {
     /// What each unit that it claimed sums up to.
-    pub units: Vec<UnitSums>,
+    pub units: Vec<T>,
     /// The roots of the trees that it completed, each with its number among the trees of the plan.
     pub tops: Vec<(u64, Hash)>,
+}
+
+impl<T: Drop> Share<T> {
+    /// Of no unit.
+    pub(crate) fn new(alloc: Global) -> Share<T>
+        ensures units { result.units.items ≡ [] }
+        ensures tops { result.tops.items ≡ [] }
+    {
+        Share {
+            units: Vec::new(alloc),
+            tops: Vec::new(alloc),
+        }
+    }
+
+    /// Makes room for one more unit, so that it can be kept once its hash is given.
+    pub(crate) fn reserve(&mut self) -> Result<(), AllocError>
+        ensures units { self.new.units.items ≡ self.old.units.items }
+        ensures tops { self.new.tops.items ≡ self.old.tops.items }
+        ensures room { OnOk result (HasRoom self.new) }
+    {
+        self.units.reserve(1)?;
+        self.tops.reserve(1)
+    }
+
+    /// Keeps what one more unit sums up to, and the top that its give told, if any.
+    pub(crate) fn keep(&mut self, sums: T, top: Option<(u64, Hash)>)
+        requires { HasRoom self.old }
+        ensures units { self.new.units.items ≡ self.old.units.items ++ sums ∷ [] }
+        ensures tops { self.new.tops.items ≡ self.old.tops.items ++ told top }
+    {
+        // There is room for both, so neither is refused.
+        let _kept = self.units.push(sums);
+        if let Some(top) = top {
+            let _told = self.tops.push(top);
+        }
+    }
 }
 
 /// One worker: claims units of the plan at the board, reads and hashes each, and gives its hash, until none is left or
@@ -68,10 +105,7 @@ pub fn work<S: Source>(
         units,
     };
     match take_units(&work, units, board, seat) {
-        Ok(taken) => Ok(Share {
-            units: taken.sums,
-            tops: taken.tops,
-        }),
+        Ok(share) => Ok(share),
         Err(failure) => Err((failure.unit, failure.error)),
     }
 }

@@ -9,8 +9,8 @@ ghost use Rattle.tor_sums.specs.Fault.{IsFault};
 ghost use Rattle.tor_engine.specs.steps.Taken.{GivesUnit, HasBegun, HasRoom, IsAny, IsIdle, IsSumOf, TakesUnits};
 ghost use Rattle.tor_engine.specs.steps.Taken.{pair_in, unit_at, units_taken};
 
-use crate::failure::Failure;
-use crate::taken::Taken;
+use crate::failure::UnitFailure;
+use crate::shares::Share;
 use crate::unit_work::UnitWork;
 use std::alloc::AllocError;
 use tor_board::{Board, Job, Seat};
@@ -24,7 +24,7 @@ pub(crate) fn take_units<W: UnitWork>(
     units: &[PlanUnit],
     board: &Board,
     seat: &mut Seat,
-) -> Result<Taken<W::Sums>, Failure<W::Fault>>
+) -> Result<Share<W::Sums>, UnitFailure<W::Fault>>
     requires begin { W.may_begin work.now }
     requires units { All (W.may_hash work.now) units.now }
     requires board { IsSeatOf board.now seat.old × (unit_count board.now ≡ length units.now) }
@@ -33,17 +33,17 @@ pub(crate) fn take_units<W: UnitWork>(
     ensures taken { TakesUnits (W.number_in work.now) (W.hash_in work.now) (W.sums_up work.now) (W.is_steady work.now)
         (W.fault work.now) (W.gave work.now) units.now (knows seat.old) (knows seat.new) result }
 {
-    let mut taken = Taken::new(work.alloc());
+    let mut share = Share::new(work.alloc());
     // A worker begins with the first unit that is claimed: before it there is none to fail where memory is refused.
     let mut worker = None;
     'claims: while let Some(job) = board.claim(seat) {
-        match take_unit(work, units, board, seat, job, &mut worker, &mut taken) {
+        match take_unit(work, units, board, seat, job, &mut worker, &mut share) {
             Ok(()) => {}
             Err(failure) => return Err(failure),
         }
     }
-    complete(work, units, worker, &mut taken.sums);
-    Ok(taken)
+    complete(work, units, worker, &mut share.units);
+    Ok(share)
 }
 
 /// Completes what the units sum up to that a worker took, if it has begun.
@@ -73,30 +73,30 @@ fn take_unit<W: UnitWork>(
     seat: &mut Seat,
     job: Job,
     worker: &mut Option<OwingSums>,
-    taken: &mut Taken<W::Sums>,
-) -> Result<(), Failure<W::Fault>>
+    share: &mut Share<W::Sums>,
+) -> Result<(), UnitFailure<W::Fault>>
     requires begin { W.may_begin work.now }
     requires units { All (W.may_hash work.now) units.now }
-    requires stands { HasBegun (W.stands work.now) (W.number_in work.now) units.now taken.old.sums.items worker.old }
+    requires stands { HasBegun (W.stands work.now) (W.number_in work.now) units.now share.old.units.items worker.old }
     requires board { IsSeatOf board.now seat.old }
     requires job { Has (knows seat.old).held job.number × (job.number < length units.now) }
     ensures board { IsSeatOf board.now seat.new }
     ensures stands { OnOk result
-        (HasBegun (W.stands work.now) (W.number_in work.now) units.now taken.new.sums.items worker.new) }
+        (HasBegun (W.stands work.now) (W.number_in work.now) units.now share.new.units.items worker.new) }
     ensures given { OnOk result (GivesUnit (W.number_in work.now) (W.hash_in work.now) IsAny
-        units.now job.number (knows seat.old) (knows seat.new) taken.old taken.new) }
+        units.now job.number (knows seat.old) (knows seat.new) share.old share.new) }
     ensures failed { IfErr result (λ failure. (failure.unit ≡ job.number)
         × (knows seat.new ≡ failing (knows seat.old) job.number)) }
-    ensures kept { IfErr result (λ _. taken.new.sums.items ≡ taken.old.sums.items) }
+    ensures kept { IfErr result (λ _. share.new.units.items ≡ share.old.units.items) }
     ensures fault { (facts : SourceFacts W.Fault) → W.is_steady work.now facts →
         MatchResult result (λ _. W.fault work.now facts (unit_at units.now job.number) ≡ None)
         (λ failure. IsFault (W.fault work.now facts (unit_at units.now job.number)) failure.error) }
     ensures gave { IfErr result (λ failure. W.gave work.now failure.error) }
 {
-    match hash_claimed(work, units, job.number(), worker, taken) {
+    match hash_claimed(work, units, job.number(), worker, share) {
         Ok(sums) => {
             let given = board.give(seat, job, work.hash_of(&sums));
-            taken.keep(sums, given.top);
+            share.keep(sums, given.top);
             Ok(())
         }
         Err(error) => Err(give_up(board, seat, job, error)),
@@ -109,23 +109,23 @@ fn hash_claimed<W: UnitWork>(
     units: &[PlanUnit],
     number: u64,
     worker: &mut Option<OwingSums>,
-    taken: &mut Taken<W::Sums>,
+    share: &mut Share<W::Sums>,
 ) -> Result<W::Sums, EngineError<W::Fault>>
     requires begin { W.may_begin work.now }
     requires units { All (W.may_hash work.now) units.now }
-    requires stands { HasBegun (W.stands work.now) (W.number_in work.now) units.now taken.old.sums.items worker.old }
+    requires stands { HasBegun (W.stands work.now) (W.number_in work.now) units.now share.old.units.items worker.old }
     requires number { number < length units.now }
     ensures stands { IfOk result (λ sums. HasBegun (W.stands work.now) (W.number_in work.now) units.now
-        (taken.old.sums.items ++ sums ∷ []) worker.new) }
-    ensures room { IfOk result (λ _. HasRoom taken.new) }
-    ensures kept { (taken.new.sums.items ≡ taken.old.sums.items) × (taken.new.tops.items ≡ taken.old.tops.items) }
+        (share.old.units.items ++ sums ∷ []) worker.new) }
+    ensures room { IfOk result (λ _. HasRoom share.new) }
+    ensures kept { (share.new.units.items ≡ share.old.units.items) × (share.new.tops.items ≡ share.old.tops.items) }
     ensures number { IfOk result (λ sums. W.number_in work.now sums ≡ number) }
     ensures fault { (facts : SourceFacts W.Fault) → W.is_steady work.now facts →
         MatchResult result (λ _. W.fault work.now facts (unit_at units.now number) ≡ None)
         (IsFault (W.fault work.now facts (unit_at units.now number))) }
     ensures gave { IfErr result (W.gave work.now) }
 {
-    taken.reserve()?;
+    share.reserve()?;
     let mut own = worker_of(work, worker.take())?;
     let sums = match work.hash(number, &units[number as usize], &mut own) {
         Ok(sums) => sums,
@@ -149,7 +149,7 @@ fn worker_of<W: UnitWork>(work: &W, worker: Option<OwingSums>) -> Result<OwingSu
 }
 
 /// Fails a unit at the board, and tells why.
-fn give_up<F>(board: &Board, seat: &mut Seat, job: Job, error: EngineError<F>) -> Failure<F>
+fn give_up<F>(board: &Board, seat: &mut Seat, job: Job, error: EngineError<F>) -> UnitFailure<F>
     requires board { IsSeatOf board.now seat.old }
     requires job { Has (knows seat.old).held job.number }
     ensures board { IsSeatOf board.now seat.new }
@@ -158,5 +158,5 @@ fn give_up<F>(board: &Board, seat: &mut Seat, job: Job, error: EngineError<F>) -
 {
     let unit = job.number();
     board.fail(seat, job);
-    Failure { unit, error }
+    UnitFailure { unit, error }
 }

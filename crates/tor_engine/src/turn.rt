@@ -6,7 +6,7 @@ ghost use Rattle.tor_sums.specs.Fault.{IsFault, first_of};
 ghost use Rattle.tor_sums.specs.steps.Each.{SumUpEach};
 ghost use Rattle.tor_engine.specs.steps.Failing.{AnswersUnits};
 
-use crate::failure::{Failure, both_joined};
+use crate::failure::{Failure, UnitFailure, both_joined};
 use crate::halves::{Divisible, by_halves};
 use crate::unit_work::UnitWork;
 use std::thread::Threads;
@@ -38,7 +38,7 @@ where
     };
     match by_halves(rt, share, workers) {
         Ok(sums) => Ok(sums),
-        Err(failure) => Err(failure.error),
+        Err(failure) => Err(failure.into_error()),
     }
 }
 
@@ -120,10 +120,10 @@ fn hash_in_turn<W: UnitWork>(
         let next = match work.hash(number, unit, &mut worker) {
             Ok(next) => next,
             Err(error) => {
-                return Err(Failure {
+                return Err(Failure::of(UnitFailure {
                     unit: number,
                     error,
-                });
+                }));
             }
         };
         sums.push(next)?;

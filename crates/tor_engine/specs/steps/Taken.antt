@@ -11,16 +11,19 @@ use Rattle.tor_plan.specs.declared.units.PlanUnit.{PlanUnit}
 use Rattle.tor_source.specs.Source.{SourceFacts}
 use Rattle.tor_sums.specs.Fault.{IsFault}
 use Rattle.tor_sums.specs.declared.errors.EngineError.{EngineError}
-use Rattle.tor_sums.specs.declared.errors.EngineError.TheVariants.{Resources}
 use Rattle.tor_engine.specs.declared.failure.Failure.{Failure}
+use Rattle.tor_engine.specs.declared.failure.Failure.TheVariants.{AtUnit, Memory}
+use Rattle.tor_engine.specs.declared.failure.UnitFailure.{UnitFailure}
 use Rattle.tor_sums.specs.declared.owing.OwingSums.{OwingSums}
-use Rattle.tor_engine.specs.declared.taken.Taken.{Taken}
+use Rattle.tor_engine.specs.declared.shares.Share.{Share}
+use Rattle.tor_engine.specs.steps.Failing.{error_of, stopped_by}
 pub use Rattle.tor_engine.specs.Shares.{given_pairs}
 pub use Rattle.tor_sums.specs.UnitSums.{unit_at}
 
 -- one more unit and its top can be kept
-abbrev pub HasRoom : {A : Type 0} → Taken A → Type 0
-HasRoom taken = (vec_len taken.sums + 1 ≤ vec_capacity taken.sums) × (vec_len taken.tops + 1 ≤ vec_capacity taken.tops)
+abbrev pub HasRoom : {A : Type 0} → Share A → Type 0
+HasRoom share =
+    (vec_len share.units + 1 ≤ vec_capacity share.units) × (vec_len share.tops + 1 ≤ vec_capacity share.tops)
 
 -- the seat holds no unit, and none has failed
 abbrev pub IsIdle : Desk → Type 0
@@ -47,7 +50,7 @@ IsSumOf number_in sums_up units one =
 
 -- a unit of this number was hashed, given, and kept
 pub record GivesUnit {A : Type 0} (number_in : A → ℕ) (hash_in : A → List ℕ) (sums_up : PlanUnit → A → Type 0)
-    (units : List PlanUnit) (number : ℕ) (old new : Desk) (before after : Taken A) : Type 0 where
+    (units : List PlanUnit) (number : ℕ) (old new : Desk) (before after : Share A) : Type 0 where
   pub one : A
   pub numbered : number_in one ≡ number
   pub summed : sums_up (unit_at units number) one
@@ -55,7 +58,7 @@ pub record GivesUnit {A : Type 0} (number_in : A → ℕ) (hash_in : A → List 
   pub arrivals : ℕ
   pub top : Option (ℕ × List ℕ)
   pub given : new ≡ after_give old number (hash_in one) joined arrivals top
-  pub sums : after.sums.items ≡ before.sums.items ++ one ∷ []
+  pub sums : after.units.items ≡ before.units.items ++ one ∷ []
   pub tops : after.tops.items ≡ before.tops.items ++ told top
 
 -- the seat gave these units, the last first: each is one of the plan, and of a steady source none of them fails
@@ -75,21 +78,21 @@ pair_in number_in hash_in one = (number_in one, hash_in one)
 
 -- what one worker took is of these units, in the order of their gives
 pub record IsOfGiven {A : Type 0} (number_in : A → ℕ) (hash_in : A → List ℕ) (sums_up : PlanUnit → A → Type 0)
-    (units : List PlanUnit) (old new : Desk) (news : List GivenUnit) (taken : Taken A) : Type 0 where
+    (units : List PlanUnit) (old new : Desk) (news : List GivenUnit) (share : Share A) : Type 0 where
   pub order : given_pairs news
-      ≡ reverse (map (pair_in number_in hash_in) taken.sums.items)
-  pub tops : new.tops ≡ reverse taken.tops.items ++ old.tops
-  pub summed : AllByRecursion (IsSumOf number_in sums_up units) taken.sums.items
+      ≡ reverse (map (pair_in number_in hash_in) share.units.items)
+  pub tops : new.tops ≡ reverse share.tops.items ++ old.tops
+  pub summed : AllByRecursion (IsSumOf number_in sums_up units) share.units.items
 
 -- what one worker did from one seat: at an error the seat failed that unit alone
 pub record TakesUnits {F A : Type 0} (number_in : A → ℕ) (hash_in : A → List ℕ) (sums_up : PlanUnit → A → Type 0)
     (is_steady : SourceFacts F → Type 0) (fault : SourceFacts F → PlanUnit → Option (EngineError F))
-    (may_be : EngineError F → Type 0) (units : List PlanUnit) (old new : Desk) (result : Result (Taken A) (Failure F))
+    (may_be : EngineError F → Type 0) (units : List PlanUnit) (old new : Desk) (result : Result (Share A) (UnitFailure F))
     : Type 0 where
   pub news : List GivenUnit
   pub has : HasGiven is_steady fault units old new news
-  pub took : IfOk result (λ taken. (new.done ≡ true) × (new.failed ≡ [])
-      × IsOfGiven number_in hash_in sums_up units old new news taken)
+  pub took : IfOk result (λ share. (new.done ≡ true) × (new.failed ≡ [])
+      × IsOfGiven number_in hash_in sums_up units old new news share)
   pub failed : IfErr result (λ failure. (new.failed ≡ failure.unit ∷ []) × (failure.unit < length units))
   pub steady : (facts : SourceFacts F) → is_steady facts →
       IfErr result (λ failure. IsFault (fault facts (unit_at units failure.unit)) failure.error)
@@ -106,6 +109,14 @@ pub record AreOfGiven {A : Type 0} (number_in : A → ℕ) (hash_in : A → List
   pub counted : (u : ℕ) → times u (map number_in sums) ≡ times u (units_of given)
   pub hashes : AllByRecursion (λ one. IsIn (given_pairs given) (pair_in number_in hash_in one)) sums
 
+-- why workers stopped from a seat that failed these units: memory was refused, or the least of them has this fault
+abbrev pub IsLeastFailure : {F : Type 0} → (PlanUnit → Option (EngineError F)) → List PlanUnit → List ℕ → Failure F
+    → Type 0
+IsLeastFailure fault units failed Memory = Unit {0}
+IsLeastFailure fault units failed (AtUnit failure) =
+    IsLeastOf failed failure.unit × (failure.unit < length units)
+    × (fault (unit_at units failure.unit) ≡ Some failure.error)
+
 -- what workers did from one seat that was cut and joined again: of a steady source the least unit that failed is
 -- answered
 pub record AnswersSeat {F A : Type 0} (number_in : A → ℕ) (hash_in : A → List ℕ) (sums_up : PlanUnit → A → Type 0)
@@ -117,11 +128,10 @@ pub record AnswersSeat {F A : Type 0} (number_in : A → ℕ) (hash_in : A → L
   pub took : IfOk result (λ sums. (new.done ≡ true) × (new.failed ≡ []) × AreOfGiven number_in hash_in news sums.items
       × AllByRecursion (IsSumOf number_in sums_up units) sums.items)
   pub steady : (facts : SourceFacts F) → is_steady facts →
-      IfErr result (λ failure. (failure.error ≡ Resources) ⊎ (IsLeastOf new.failed failure.unit
-      × (failure.unit < length units) × (fault facts (unit_at units failure.unit) ≡ Some failure.error)))
-  pub gave : IfErr result (λ failure. may_be failure.error)
+      IfErr result (IsLeastFailure (fault facts) units new.failed)
+  pub gave : IfErr result (λ failure. may_be (error_of failure))
 
--- the sums alone of what was taken
-abbrev pub AreSumsOfTaken : {F A : Type 0} → Result (Taken A) (Failure F) → Result (Vec A Global) (Failure F) → Type 0
-AreSumsOfTaken (Ok taken) result = result ≡ Ok taken.sums
-AreSumsOfTaken (Err failure) result = result ≡ Err failure
+-- what one worker did, without its tops
+abbrev pub without_tops : {F A : Type 0} → Result (Share A) (UnitFailure F) → Result (Vec A Global) (Failure F)
+without_tops (Ok share) = Ok share.units
+without_tops (Err failure) = Err (stopped_by failure)

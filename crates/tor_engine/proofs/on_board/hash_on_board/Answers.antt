@@ -1,11 +1,12 @@
 -- what the board had when it was closed
-use Rattle.std.proofs.Common.{ℕ, List, ap, length, subst, ◌∙◌}
+use Rattle.std.proofs.Common.{ℕ, List, ap, length, subst, sym, ◌∙◌}
 use lib.ListN.{get_elem?}
 use Rattle.std.specs.Prelude.{Result, Vec}
 use Rattle.std.specs.declared.alloc.Global.{Global}
 use Rattle.tor_board.specs.Desks.{Desk}
 use Rattle.tor_board.specs.Seats.{IsAllGiven, knows}
 use Rattle.tor_plan.specs.declared.forests.Run.{Run}
+use Rattle.tor_sums.specs.Fault.{IsFault, first_of}
 use Rattle.tor_engine.specs.declared.failure.Failure.{Failure}
 use Rattle.tor_engine.specs.steps.Taken.{AnswersSeat}
 use Rattle.tor_engine.proofs.BoardEnd.{faultless, least_fault, roots_there, summed}
@@ -53,6 +54,7 @@ returns-in-Err-clause-fault g c =
     AnswersSeat (w.number_in work) (w.hash_in work) (w.sums_up work) (w.is_steady work) (w.fault work) (w.gave work)
     units (knows c.in_ok-board.seat) (knows c.by_halves-seated.result.seat) r) c.in-Err.is c.by_halves-seated.ensures.2
     in
-    least_fault (w.number_in work) (w.hash_in work) (w.sums_up work) (w.is_steady work) (w.fault work) (w.gave work)
+    λ facts steady. subst (IsFault (first_of (w.fault work facts) units)) (sym c.into_error.ensures)
+    (least_fault (w.number_in work) (w.hash_in work) (w.sums_up work) (w.is_steady work) (w.fault work) (w.gave work)
     units (knows c.in_ok-board.seat) (knows c.by_halves-seated.result.seat) bare c.close-closed.result.least_failed
-    c.close-closed.ensures.least all c.in-Err.failure answers
+    c.close-closed.ensures.least all c.in-Err.failure answers facts steady)

@@ -27,9 +27,9 @@ returns-in-Ok-clause-summed g c = λ facts steady fit.
     let plan = c.args.plan.now in
     let is_steady = g.S.Source.is_steady c.args.source.now in
     are_unit_sums is_steady plan c.units-units.ensures.planned facts steady fit
-    c.in-Ok.taken.sums.items
+    c.in-Ok.share.units.items
     (subst (λ (units : List PlanUnit). AllByRecursion
-    (IsSumOf (λ (one : UnitSums). one.unit) (SumsUpUnit is_steady plan) units) c.in-Ok.taken.sums.items)
+    (IsSumOf (λ (one : UnitSums). one.unit) (SumsUpUnit is_steady plan) units) c.in-Ok.share.units.items)
     c.units-units.ensures.value c.in-Ok.ensures.taken.took.2.summed)
 
 pub returns-in-Err-clause-fault : goal.returns-in-Err-clause-fault
@@ -46,8 +46,8 @@ returns-in-Ok-clause-within g c =
     let plan = c.args.plan.now in
     let is_steady = g.S.Source.is_steady c.args.source.now in
     let units = c.units-units.result.now in
-    All-from_recursion (λ (one : UnitSums). one.unit < length plan.units) c.in-Ok.taken.sums.items
+    All-from_recursion (λ (one : UnitSums). one.unit < length plan.units) c.in-Ok.share.units.items
     (each_more (IsSumOf (λ (one : UnitSums). one.unit) (SumsUpUnit is_steady plan) units)
-    (λ (one : UnitSums). one.unit < length plan.units) c.in-Ok.taken.sums.items
+    (λ (one : UnitSums). one.unit < length plan.units) c.in-Ok.share.units.items
     (λ one is. subst (λ (all : List PlanUnit). one.unit < length all) c.units-units.ensures.value is.0)
     c.in-Ok.ensures.taken.took.2.summed)

@@ -13,11 +13,11 @@ hash-requires g c = record {
   unit = subst (λ (one : PlanUnit). g.W.UnitWork.may_hash c.args.work.now one) (sym c.index-units-number.is)
       (c.requires.units c.args.number c.index-units-number.result c.requires.number);
   stands = (
-    units_taken (g.W.UnitWork.number_in c.args.work.now) c.args.units.now c.args.taken.now.sums.items,
-    c.args.taken.now.sums.items,
-    c.in_ok-own.ensures c.args.units.now c.args.taken.now.sums.items
+    units_taken (g.W.UnitWork.number_in c.args.work.now) c.args.units.now c.args.share.now.units.items,
+    c.args.share.now.units.items,
+    c.in_ok-own.ensures c.args.units.now c.args.share.now.units.items
         (subst (HasBegun (g.W.UnitWork.stands c.args.work.now) (g.W.UnitWork.number_in c.args.work.now)
-        c.args.units.now c.args.taken.now.sums.items) (sym c.take.ensures.value) c.requires.stands),
+        c.args.units.now c.args.share.now.units.items) (sym c.take.ensures.value) c.requires.stands),
   );
 }
 
@@ -31,7 +31,7 @@ returns-in-Err g c =
     record {
       stands = tt;
       room = tt;
-      kept = (c.in_ok-reserve.ensures.sums, c.in_ok-reserve.ensures.tops);
+      kept = (c.in_ok-reserve.ensures.units, c.in_ok-reserve.ensures.tops);
       number = tt;
       fault = λ facts steady.
           subst (λ (one : PlanUnit). IsFault (w.fault work facts one) c.in-Err.error) unit
@@ -45,17 +45,17 @@ returns g c =
     let work = c.args.work.now in
     let none : PlanUnit = record { zeros = 0; parts = [] } in
     let work_stands = w.stands work in
-    let begun = c.in_ok-own.ensures c.args.units.now c.args.taken.now.sums.items
-    (subst (HasBegun work_stands (w.number_in work) c.args.units.now c.args.taken.now.sums.items)
+    let begun = c.in_ok-own.ensures c.args.units.now c.args.share.now.units.items
+    (subst (HasBegun work_stands (w.number_in work) c.args.units.now c.args.share.now.units.items)
     (sym c.take.ensures.value) c.requires.stands) in
     let unit = c.index-units-number.is
     ∙ get_or_default c.args.units.now c.args.number c.index-units-number.result none c.requires.number in
     record {
-      stands = taken_next work_stands (w.number_in work) c.args.units.now c.args.taken.now.sums.items c.in-Ok.sums
+      stands = taken_next work_stands (w.number_in work) c.args.units.now c.args.share.now.units.items c.in-Ok.sums
           c.args.number c.index-units-number.result unit c.in-Ok.ensures.number c.hash.new.worker
           (c.in-Ok.ensures.stands _ _ begun);
       room = c.in_ok-reserve.ensures.room;
-      kept = (c.in_ok-reserve.ensures.sums, c.in_ok-reserve.ensures.tops);
+      kept = (c.in_ok-reserve.ensures.units, c.in_ok-reserve.ensures.tops);
       number = c.in-Ok.ensures.number;
       fault = λ facts steady. ap (λ one. w.fault work facts one) (sym unit) ∙ c.in-Ok.ensures.fault facts steady;
       gave = tt;

@@ -13,10 +13,10 @@ claims-init g c =
     let work = c.args.work.now in
     record {
       board = c.requires.board.0;
-      stands = c.new-taken.ensures.sums;
+      stands = c.new-share.ensures.units;
       taking = takes_none (w.number_in work) (w.hash_in work) IsAny (w.is_steady work) (w.fault work)
-          (w.gave work) c.args.units.now (knows c.args.seat.now) c.new-taken.result c.requires.idle
-          c.new-taken.ensures.sums c.new-taken.ensures.tops;
+          (w.gave work) c.args.units.now (knows c.args.seat.now) c.new-share.result c.requires.idle
+          c.new-share.ensures.units c.new-share.ensures.tops;
     }
 
 pub claims-smaller : goal.claims-smaller
@@ -24,7 +24,7 @@ claims-smaller g c =
     let w = g.W.UnitWork in
     let work = c.args.work.now in
     let few = taken_few (w.number_in work) (w.hash_in work) IsAny (w.is_steady work) (w.fault work)
-    (w.gave work) c.args.units.now (knows c.args.seat.now) (knows c.claims.seat) c.claims.taken
+    (w.gave work) c.args.units.now (knows c.args.seat.now) (knows c.claims.seat) c.claims.share
     c.claims.invariant.taking in
     let given = ap (λ (d : Desk). length d.given) c.in-Ok.ensures.given.given in
     let before = ap (λ (d : Desk). length d.given) c.in-Some.ensures.some.1 in
@@ -41,10 +41,10 @@ claims-preserved g c =
       board = c.take_unit.ensures.board;
       stands = c.in-Ok.ensures.stands;
       taking = takes_next (w.number_in work) (w.hash_in work) IsAny (w.is_steady work) (w.fault work)
-          (w.gave work) units (knows c.args.seat.now) (knows c.claims.seat) c.claims.taken c.claims.invariant.taking
-          c.in-Some.job.number there claimed.2 (knows c.take_unit.new.seat) c.take_unit.new.taken
+          (w.gave work) units (knows c.args.seat.now) (knows c.claims.seat) c.claims.share c.claims.invariant.taking
+          c.in-Some.job.number there claimed.2 (knows c.take_unit.new.seat) c.take_unit.new.share
           (subst (λ (d : Desk). GivesUnit (w.number_in work) (w.hash_in work) IsAny units
-          c.in-Some.job.number d (knows c.take_unit.new.seat) c.claims.taken c.take_unit.new.taken) claimed.1
+          c.in-Some.job.number d (knows c.take_unit.new.seat) c.claims.share c.take_unit.new.share) claimed.1
           c.in-Ok.ensures.given) c.in-Ok.ensures.fault;
     }
 
@@ -58,7 +58,7 @@ returns-in-Err-clause-taken g c =
     takes_as (w.number_in work) (w.hash_in work) IsAny (w.sums_up work) (w.is_steady work) (w.fault work)
     (w.gave work) units (knows c.args.seat.now) (knows c.take_unit.new.seat) c.in-Err.failure
     (takes_failed (w.number_in work) (w.hash_in work) IsAny (w.is_steady work) (w.fault work) (w.gave work)
-    units (knows c.args.seat.now) (knows c.claims.seat) c.claims.taken c.claims.invariant.taking
+    units (knows c.args.seat.now) (knows c.claims.seat) c.claims.share c.claims.invariant.taking
     c.in-Some.job.number there claimed.2 (knows c.take_unit.new.seat) c.in-Err.failure
     (c.in-Err.ensures.failed.1 ∙ ap (λ (d : Desk). failing d c.in-Some.job.number) claimed.1)
     c.in-Err.ensures.failed.0 c.in-Err.ensures.fault c.in-Err.ensures.gave)
@@ -71,6 +71,6 @@ returns-clause-taken g c =
     takes_all (w.number_in work) (w.hash_in work) (w.sums_up work) (w.is_steady work) (w.fault work) (w.gave work)
     c.args.units.now (knows c.args.seat.now) (knows c.claims.seat) (knows c.claim.new.seat) _
     (taking_complete (w.number_in work) (w.hash_in work) (w.sums_up work) (w.is_steady work) (w.fault work)
-    (w.gave work) c.args.units.now (knows c.args.seat.now) (knows c.claims.seat) c.claims.taken _
+    (w.gave work) c.args.units.now (knows c.args.seat.now) (knows c.claims.seat) c.claims.share _
     c.claims.invariant.taking refl done.same (done.summed c.claims.invariant.taking.of.summed))
     c.in_default.ensures.none

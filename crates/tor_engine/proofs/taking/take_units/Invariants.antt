@@ -9,9 +9,9 @@ abbrev pub invariant-claims : goal.invariant-claims
 invariant-claims g l =
     let w = g.W.UnitWork in record {
       board : IsSeatOf l.board l.seat;
-      stands : HasBegun (w.stands l.work) (w.number_in l.work) l.units l.taken.sums.items l.worker;
+      stands : HasBegun (w.stands l.work) (w.number_in l.work) l.units l.share.units.items l.worker;
       taking : IsTaking (w.number_in l.work) (w.hash_in l.work) IsAny (w.is_steady l.work)
-          (w.fault l.work) (w.gave l.work) l.units (knows l.fn.seat) (knows l.seat) l.taken;
+          (w.fault l.work) (w.gave l.work) l.units (knows l.fn.seat) (knows l.seat) l.share;
     }
 
 -- no unit is claimed twice, so that the units that are left become fewer

@@ -1,11 +1,12 @@
 -- one unit after the other
-use Rattle.std.proofs.Common.{List, [], ◌∷◌, ◌++◌, take, inl, inr, subst, sym, ap, ◌∙◌}
+use Rattle.std.proofs.Common.{List, [], ◌∷◌, ◌++◌, take, subst, sym, ap, ◌∙◌}
 use Rattle.std.proofs.lemmas.List.{take_all, take_more}
 use Rattle.tor_plan.specs.declared.units.PlanUnit.{PlanUnit}
 use Rattle.tor_sums.specs.steps.Each.{SumUpEach}
-use Rattle.tor_engine.specs.steps.Failing.{failure_of}
+use Rattle.tor_engine.specs.steps.Failing.{IsFailure, failure_of, first_failure}
 use Rattle.tor_engine.proofs.Failing.{all_hold, fails_here, next_holds}
 use Rattle.tor_sums.proofs.FirstOf.{first_of_none}
+use Rattle.tor_engine.proofs.Stopping.{error_stays, stops}
 use Rattle.tor_engine.proofs.UnitShares.{refused}
 use Rattle.tor_engine.proofs.turn.hash_in_turn.Goals as goal
 
@@ -33,13 +34,13 @@ complete-requires-clause-stands g c = (take c.units.index c.args.units.now, c.un
 pub returns-in-Err : goal.returns-in-Err
 returns-in-Err g c = record {
   summed = _;
-  steady = λ facts steady. elim (c.in-Err.ensures.fault facts steady) [
-    | inl memory ↦ inl memory
-    | inr fault ↦ inr (fails_here (g.W.UnitWork.fault c.args.work.now facts) c.args.first c.args.units.now c.units.index
-        _ c.index-units-index.result c.units-test.true (sym c.index-units-index.is)
-        (c.units.invariant.faultless facts steady) c.in-Err.error fault)
-  ];
-  gave = c.in-Err.ensures.gave;
+  steady = λ facts steady.
+      stops _ c.of.result c.of.ensures (IsFailure (first_failure (g.W.UnitWork.fault c.args.work.now facts) c.args.first c.args.units.now)) tt
+      (c.in-Err.ensures.fault facts steady)
+      (fails_here (g.W.UnitWork.fault c.args.work.now facts) c.args.first c.args.units.now c.units.index
+      _ c.index-units-index.result c.units-test.true (sym c.index-units-index.is)
+      (c.units.invariant.faultless facts steady) c.in-Err.error);
+  gave = subst (g.W.UnitWork.gave c.args.work.now) (sym (error_stays _ c.of.result c.of.ensures)) c.in-Err.ensures.gave;
 }
 
 pub returns-in_err-push : goal.returns-in_err-push

@@ -1,5 +1,5 @@
 -- two workers are as one
-use Rattle.std.proofs.Common.{List, subst, sym, ◌∙◌}
+use Rattle.std.proofs.Common.{List, subst, ◌∙◌}
 use Rattle.tor_board.specs.Seats.{IsSeatOf, knows}
 use Rattle.tor_board.specs.declared.board.Board.{Board}
 use Rattle.tor_plan.specs.declared.units.PlanUnit.{PlanUnit}
@@ -31,5 +31,5 @@ returns g c = λ whole first second halves one other.
           (knows c.args.other.seat) halves.6 halves.7 halves.8 c.join.ensures.seat.1 c.args.one.result
           c.args.other.result
           c.both_joined.result first_answers second_answers c.both_joined.ensures
-          (λ failure is. subst (w.gave work) (sym is) (g.met.W.UnitWork.may_refuse work)),
+          (g.met.W.UnitWork.may_refuse work),
     )
