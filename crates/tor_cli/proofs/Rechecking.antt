@@ -18,7 +18,7 @@ use Rattle.tor_source.specs.declared.faults.ScanFault.{ScanFault}
 use Rattle.tor_source.specs.declared.faults.ScanFault.TheVariants as scans
 use Rattle.tor_spec.specs.valid.View.{View}
 use Rattle.tor_cli.specs.Foreign.{IsNoTorrent}
-use Rattle.tor_cli.specs.Place.{IsFileEnd, IsFileFault, IsFileSize}
+use Rattle.tor_source.specs.Answers.{system_answers}
 use Rattle.tor_cli.specs.recheck.Recheck.{IsNoPlace, IsNotPlaced, IsNotRechecked}
 use Rattle.tor_cli.specs.Status.{of_recheck_error, of_scan_fault}
 use Rattle.tor_cli.specs.recheck.Whereabouts.{looked_for}
@@ -78,7 +78,7 @@ module _ (bytes : List ℕ) (view : View) (told : IsTold bytes view) where
 
   -- a file of the torrent had a fault, or memory was refused
   pub not_rechecked : (workers : ℕ) (error : RecheckError Error)
-      → IsGiven (IsFileFault (length view.files)) (IsFileSize (length view.files)) IsFileEnd (length view.files) error
+      → IsGiven (system_answers (length view.files)) (length view.files) error
       → (IsHow (Board workers) → error ≢ rechecks.Workers) → ((IsHow (Board workers) → ⊥) → error ≡ rechecks.Workers)
       → IsNotRechecked workers bytes (of_recheck_error error)
   not_rechecked workers (rechecks.Read file start fault) given other only =

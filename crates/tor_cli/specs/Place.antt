@@ -1,6 +1,5 @@
 -- The files at a place of the system, the faults that they may have, and when no torrent is made of them.
 use Rattle.std.specs.Prelude.{◌≡◌, ◌≢◌, ◌≤◌, ◌<◌, ◌∷◌, [], ℕ, Bool, true, false, List, length, Option, None, Some}
-use Rattle.std.specs.IoError.{error_kind}
 use Rattle.std.specs.List.{All}
 use Rattle.std.specs.List.Sorted.{IsStrictlySortedBy}
 use Rattle.std.specs.declared.io.Error.{Error}
@@ -10,7 +9,7 @@ use Rattle.tor_meta.specs.declared.make_error.MakeError.{MakeError}
 use Rattle.tor_meta.specs.declared.make_error.MakeError.TheVariants.{Hashing}
 use Rattle.tor_sums.specs.declared.errors.EngineError.TheVariants as engine
 use Rattle.tor_meta.specs.declared.order.Order.{Order}
-use Rattle.tor_source.specs.Faults.{is_absence}
+use Rattle.tor_source.specs.Answers.{system_answers}
 use Rattle.tor_tree.specs.Path.{path_cmp}
 use Rattle.tor_source.specs.declared.faults.ScanFault.TheVariants as scans
 use Rattle.tor_cli.specs.make.Attrs.{IsNotLettered}
@@ -32,18 +31,6 @@ IsNotFound name attrs NoResources = Unit {0}
 IsNotFound name attrs fault =
     (single : Bool) × (paths : List (List (List ℕ))) × AreFound name single paths × IsNotLettered attrs paths fault
 
--- a fault that one of so many files can have. Its length never says that nothing is there (profile)
-abbrev pub IsFileFault : ℕ → ℕ → Option ℕ → Error → Type 0
-IsFileFault count file offset fault = (file < count) × (offset ≡ None → is_absence (error_kind fault) ≡ false)
-
--- what can be told of the length of a file. Of one that is none of so many it is that it is missing (profile)
-abbrev pub IsFileSize : ℕ → ℕ → Option ℕ → Type 0
-IsFileSize count file size = count ≤ file → size ≡ None
-
--- a read can end at any offset of any file (profile)
-abbrev pub IsFileEnd : ℕ → ℕ → Type 0
-IsFileEnd file start = Unit {0}
-
 -- why an order is refused before a byte is read; for streams there are more reasons
 abbrev pub refusal_by : Way → Order → List (List (List ℕ)) → Option (MakeError Error)
 refusal_by (Shared how) order paths = make_refusal order paths
@@ -60,5 +47,5 @@ IsStreamFault count other = Unit {0}
 
 -- what is answered of so many files they gave or told
 abbrev pub IsGivenBy : Way → ℕ → MakeError Error → Type 0
-IsGivenBy (Shared how) count error = IsGivenTo (IsFileFault count) (IsFileSize count) IsFileEnd count error
+IsGivenBy (Shared how) count error = IsGivenTo (system_answers count) count error
 IsGivenBy (Streams workers) count error = IsStreamFault count error

@@ -151,11 +151,7 @@ impl<'a, S: Source> Source for Counting<'a, S> {
 
     ghost is_steady = { λ counting facts. S.is_steady counting.source.now facts };
 
-    ghost gave = { λ counting file offset fault. S.gave counting.source.now file offset fault };
-
-    ghost told = { λ counting file size. S.told counting.source.now file size };
-
-    ghost ended = { λ counting file start. S.ended counting.source.now file start };
+    ghost answers = { λ counting. S.answers counting.source.now };
 
     fn length(&self, file: u64) -> Result<Option<u64>, S::Fault> {
         let answer = self.source.length(file);

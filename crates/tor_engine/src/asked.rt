@@ -22,10 +22,9 @@ pub(crate) fn ask_each<S: Source>(
         MatchResult result
         (λ told. (told.items ≡ lengths_told facts count) × (first_asked_fault facts count ≡ None))
         (IsFault (first_asked_fault facts count)) }
-    ensures told { IfOk result (λ told. HasTold (S.told source.now) told.items) }
+    ensures told { IfOk result (λ told. HasTold (S.answers source.now) told.items) }
     ensures counted { IfOk result (λ told. length told.items ≡ count) }
-    ensures gave { IfErr result
-        (λ error. (error ≡ Resources) ⊎ IsGivenLength (S.gave source.now) count error) }
+    ensures gave { IfErr result (λ error. (error ≡ Resources) ⊎ IsGivenLength (S.answers source.now) count error) }
 {
     let mut told = Vec::with_capacity(alloc, count)?;
     'files: for file in 0..count {
@@ -45,8 +44,8 @@ pub(crate) fn ask_one<S: Source>(
     ensures steady { (facts : SourceFacts S.Fault) → S.is_steady source.now facts →
         MatchResult result (λ length. told_length facts file ≡ Ok length)
         (λ error. asked_fault facts file ≡ Some error) }
-    ensures told { IfOk result (S.told source.now file) }
-    ensures gave { (files : ℕ) → file < files → IfErr result (IsGivenLength (S.gave source.now) files) }
+    ensures told { IfOk result ((S.answers source.now).told file) }
+    ensures gave { (files : ℕ) → file < files → IfErr result (IsGivenLength (S.answers source.now) files) }
 {
     match source.length(file) {
         Ok(length) => Ok(length),
@@ -67,7 +66,7 @@ pub(crate) fn expect_each<S: Source>(
     ensures steady { (facts : SourceFacts S.Fault) → S.is_steady source.now facts →
         MatchResult result (λ _. first_again_fault facts told.now ≡ None)
         (λ error. first_again_fault facts told.now ≡ Some error) }
-    ensures gave { IfErr result (IsGivenAgain (S.gave source.now) (S.told source.now) told.now) }
+    ensures gave { IfErr result (IsGivenAgain (S.answers source.now) told.now) }
 {
     'files: for (file, length) in told.iter().enumerate() {
         match ask_one(source, file as u64) {

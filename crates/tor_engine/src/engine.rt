@@ -34,9 +34,8 @@ pub fn hash_all<S: Source, R: Threads + Sync>(
         × (first_fault facts plan.now.lengths ≡ None))
         (IsFault (first_fault facts plan.now.lengths)) }
     ensures whole { IfOk result (AreSumsOfSome plan.now) }
-    ensures told { IfOk result (λ _. HasToldLengths (S.told source.now) plan.now.lengths) }
-    ensures gave { IfErr result
-        (IsGiven (S.gave source.now) (S.told source.now) (S.ended source.now) plan.now.lengths) }
+    ensures told { IfOk result (λ _. HasToldLengths (S.answers source.now) plan.now.lengths) }
+    ensures gave { IfErr result (IsGiven (S.answers source.now) plan.now.lengths) }
 {
     expect_lengths(alloc, source, plan.lengths())?;
     hash_told(rt, alloc, source, plan, how)
@@ -62,9 +61,8 @@ pub fn hash_told<S: Source, R: Threads + Sync>(
     ensures unchanged { (facts : SourceFacts S.Fault) → S.is_steady source.now facts →
         OnOk result (first_length_fault facts plan.now.lengths ≡ None) }
     ensures whole { IfOk result (AreSumsOfSome plan.now) }
-    ensures told { IfOk result (λ _. HasToldLengths (S.told source.now) plan.now.lengths) }
-    ensures gave { IfErr result
-        (IsGivenNotMissing (S.gave source.now) (S.told source.now) (S.ended source.now) plan.now.lengths) }
+    ensures told { IfOk result (λ _. HasToldLengths (S.answers source.now) plan.now.lengths) }
+    ensures gave { IfErr result (IsGivenNotMissing (S.answers source.now) plan.now.lengths) }
 {
     let units = plan.units();
     let work = SumWork {

@@ -20,9 +20,8 @@ pub(crate) fn expect_lengths<S: Source>(
     ensures steady { (facts : SourceFacts S.Fault) → S.is_steady source.now facts →
         MatchResult result (λ _. first_length_fault facts planned.now ≡ None)
         (IsFault (first_length_fault facts planned.now)) }
-    ensures told { IfOk result (λ _. HasToldLengths (S.told source.now) planned.now) }
-    ensures gave { IfErr result
-        (IsGiven (S.gave source.now) (S.told source.now) (S.ended source.now) planned.now) }
+    ensures told { IfOk result (λ _. HasToldLengths (S.answers source.now) planned.now) }
+    ensures gave { IfErr result (IsGiven (S.answers source.now) planned.now) }
 {
     let told = ask_lengths(alloc, source, planned.len())?;
     match first_change(&told, planned) {
@@ -42,8 +41,8 @@ pub fn ask_lengths<S: Source>(
         MatchResult result (λ lengths. ToldLengths facts count lengths.items)
         (IsFault (first_of (length_fault facts) (range_with_len 0 count))) }
     ensures counted { IfOk result (λ lengths. length lengths.items ≡ count) }
-    ensures told { IfOk result (λ lengths. HasToldLengths (S.told source.now) lengths.items) }
-    ensures gave { IfErr result (IsGivenAsked (S.gave source.now) (S.told source.now) count) }
+    ensures told { IfOk result (λ lengths. HasToldLengths (S.answers source.now) lengths.items) }
+    ensures gave { IfErr result (IsGivenAsked (S.answers source.now) count) }
 {
     let mut lengths = Vec::with_capacity(alloc, count)?;
     'files: for file in 0..count {
@@ -60,9 +59,8 @@ fn ask_length<S: Source>(source: &S, file: u64) -> Result<u64, EngineError<S::Fa
     ensures steady { (facts : SourceFacts S.Fault) → S.is_steady source.now facts →
         MatchResult result (λ length. told_length facts file ≡ Ok (Some length))
         (λ error. length_fault facts file ≡ Some error) }
-    ensures told { IfOk result (λ length. S.told source.now file (Some length)) }
-    ensures gave { (files : ℕ) → file < files →
-        IfErr result (IsGivenAsked (S.gave source.now) (S.told source.now) files) }
+    ensures told { IfOk result (λ length. (S.answers source.now).told file (Some length)) }
+    ensures gave { (files : ℕ) → file < files → IfErr result (IsGivenAsked (S.answers source.now) files) }
 {
     match ask_one(source, file) {
         Ok(Some(length)) => Ok(length),

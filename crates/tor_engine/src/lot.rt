@@ -58,7 +58,7 @@ pub fn hash_lot<S: Source, R: Threads + Sync>(
         × IsRowOf plan.now contents (units_between from to plan.now.units) row.hashes.items row.pieces.items) }
     ensures there { (facts : SourceFacts S.Fault) → S.is_steady source.now facts →
         OnOk result (HasBytesAt facts (units_between from to plan.now.units)) }
-    ensures gave { IfErr result (IsGivenRead (S.gave source.now) (S.ended source.now) plan.now.lengths) }
+    ensures gave { IfErr result (IsGivenRead (S.answers source.now) plan.now.lengths) }
 {
     units_are_few();
     let units = units_between(plan.units(), from, to);

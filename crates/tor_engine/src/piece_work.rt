@@ -76,8 +76,7 @@ impl<'a, S: FileBytes> UnitWork for PieceWork<'a, S> {
 
     ghost hash_in = { λ _ _. replicate 32 0 };
 
-    ghost gave = { λ work. IsGivenRead (S.gave work.source.now) (S.ended work.source.now)
-        (lengths_of_sizes work.known.now.lengths.items) };
+    ghost gave = { λ work. IsGivenRead (S.answers work.source.now) (lengths_of_sizes work.known.now.lengths.items) };
 
     ghost may_refuse = { λ _. tt };
 
@@ -151,8 +150,7 @@ fn hash_if_there<S: FileBytes>(
         × (piece_fault facts (contents_in facts (length plan.now.lengths)) piece.now ≡ None))
         (IsFault (piece_fault facts (contents_in facts (length plan.now.lengths)) piece.now)) }
     ensures there { IfOk result (λ hash. is_some hash ≡ is_within known.now.lengths.items piece.now) }
-    ensures gave { IfErr result (IsGivenRead (S.gave source.now) (S.ended source.now)
-        (lengths_of_sizes known.now.lengths.items)) }
+    ensures gave { IfErr result (IsGivenRead (S.answers source.now) (lengths_of_sizes known.now.lengths.items)) }
 {
     if !is_there(&known.lengths, piece) {
         return Ok(None);
@@ -195,7 +193,7 @@ fn hash_piece<S: FileBytes>(
         × (unit_fault facts piece.now ≡ None))
         (IsFault (unit_fault facts piece.now)) }
     ensures gave { (lengths : List ℕ) → All (IsInFile lengths) piece.now.parts →
-        IfErr result (IsGivenRead (S.gave source.now) (S.ended source.now) lengths) }
+        IfErr result (IsGivenRead (S.answers source.now) lengths) }
 {
     match hash_unit(alloc, source, plan, piece, sums) {
         Ok(hashed) => Ok(hashes_of_piece(plan, piece, hashed)),

@@ -52,8 +52,7 @@ pub fn hash_pieces<S: Source, R: Threads + Sync>(
         × (first_piece_fault facts plan.now ≡ None))
         (IsFault (first_piece_fault facts plan.now)) }
     ensures counted { IfOk result (λ hashes. length hashes.items ≡ length (pieces_of_plan plan.now)) }
-    ensures gave { IfErr result (IsGivenPieces (S.gave source.now) (S.told source.now) (S.ended source.now)
-        (length plan.now.lengths)) }
+    ensures gave { IfErr result (IsGivenPieces (S.answers source.now) (length plan.now.lengths)) }
 {
     match find_pieces(rt, alloc, source, plan, how) {
         Ok(found) => Ok(found.hashes),
@@ -78,12 +77,11 @@ pub fn find_pieces<S: Source, R: Threads + Sync>(
         × (found.lengths.items ≡ lengths_told facts (length plan.now.lengths))
         × (first_piece_fault facts plan.now ≡ None))
         (IsFault (first_piece_fault facts plan.now)) }
-    ensures told { IfOk result (λ found. HasTold (S.told source.now) found.lengths.items) }
+    ensures told { IfOk result (λ found. HasTold (S.answers source.now) found.lengths.items) }
     ensures there { IfOk result (λ found. HasHashesWithin plan.now found.lengths.items found.hashes.items) }
     ensures counted { IfOk result (λ found. (length found.hashes.items ≡ length (pieces_of_plan plan.now))
         × (length found.lengths.items ≡ length plan.now.lengths)) }
-    ensures gave { IfErr result (IsGivenPieces (S.gave source.now) (S.told source.now) (S.ended source.now)
-        (length plan.now.lengths)) }
+    ensures gave { IfErr result (IsGivenPieces (S.answers source.now) (length plan.now.lengths)) }
 {
     let lengths = match ask_each(alloc, source, plan.lengths().len()) {
         Ok(lengths) => lengths,
@@ -126,8 +124,7 @@ fn hash_known<S: Source, R: Threads + Sync>(
         OnOk result (known.now.lengths.items ≡ lengths_told facts (length plan.now.lengths)) }
     ensures there { IfOk result (λ hashes. HasHashesWithin plan.now known.now.lengths.items hashes.items) }
     ensures counted { IfOk result (λ hashes. length hashes.items ≡ length (pieces_of_plan plan.now)) }
-    ensures gave { IfErr result (IsGivenKnown (S.gave source.now) (S.told source.now) (S.ended source.now)
-        known.now.lengths.items) }
+    ensures gave { IfErr result (IsGivenKnown (S.answers source.now) known.now.lengths.items) }
 {
     let units = plan.units();
     let work = PieceWork {

@@ -94,8 +94,7 @@ pub fn work<S: Source>(
     ensures fault { (facts : SourceFacts S.Fault) → S.is_steady source.now facts →
         map length (contents_in facts (length plan.now.lengths)) ≡ plan.now.lengths →
         IfErr result (λ error. IsFault (unit_fault facts (unit_at plan.now.units error.0)) error.1) }
-    ensures gave { IfErr result (λ error.
-        IsGivenRead (S.gave source.now) (S.ended source.now) plan.now.lengths error.1) }
+    ensures gave { IfErr result (λ error. IsGivenRead (S.answers source.now) plan.now.lengths error.1) }
 {
     let units = plan.units();
     let work = SumWork {

@@ -45,7 +45,7 @@ impl<'a, S: FileBytes> UnitWork for SumWork<'a, S> {
 
     ghost hash_in = { λ _ sums. sums.hash };
 
-    ghost gave = { λ work. IsGivenRead (S.gave work.source.now) (S.ended work.source.now) work.plan.now.lengths };
+    ghost gave = { λ work. IsGivenRead (S.answers work.source.now) work.plan.now.lengths };
 
     ghost may_refuse = { λ _. tt };
 

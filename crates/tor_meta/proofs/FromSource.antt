@@ -8,6 +8,7 @@ use Rattle.std.proofs.lemmas.List.{get_or-map, length-map}
 use Rattle.std.proofs.lemmas.List.Elements.{recursion_from_All}
 use Rattle.std.proofs.lemmas.List.FromFn.{get_or-enumerate_from, length-enumerate_from}
 use Rattle.tor_sums.specs.Contents.{contents_in}
+use Rattle.tor_source.specs.Answers.{Answers}
 use Rattle.tor_sums.specs.Given.{HasToldLengths}
 use Rattle.tor_meta.specs.Contents.{files_with, IsMadeOf, IsMadeOfSome}
 use Rattle.tor_meta.specs.Make.{IsMadeOfTold, content_at, files_of_source, lettered, letters_at, listed_files}
@@ -209,9 +210,9 @@ module _ (settings : Settings) (files : ListOf (ListOf (ListOf ℕ) × Attr)) (l
       )
 
   -- contents of these lengths are of the lengths that were told
-  pub made_of_told : (told : ℕ → Option ℕ → Type 0) → length lengths ≡ length entries → HasToldLengths told lengths
-      → IsMadeOfTold told settings files bytes
-  made_of_told told many asked =
+  pub made_of_told : {F : Type 0} (answers : Answers F) → length lengths ≡ length entries
+      → HasToldLengths answers lengths → IsMadeOfTold answers settings files bytes
+  made_of_told answers many asked =
       let within = entries_within (length lengths) entries indexed.indices (sym many) in
       record {
         entries = entries;
@@ -225,7 +226,7 @@ module _ (settings : Settings) (files : ListOf (ListOf (ListOf ℕ) × Attr)) (l
             ≡ length (get_or contents k []) =
             ap (λ files. get_or (lengths_of files) k 0) (sym is) ∙ ap (λ ns. get_or ns k 0) (sym fit)
             ∙ get_or-map length contents k [] 0 inside in
-            subst (λ (n : ℕ). told (get_or (indices_of entries) k 0) (Some n)) same
-            (told_of_listed told lengths entries within asked k there);
+            subst (λ (n : ℕ). answers.told (get_or (indices_of entries) k 0) (Some n)) same
+            (told_of_listed answers lengths entries within asked k there);
         made = of_lettered;
       }

@@ -12,6 +12,7 @@ use Rattle.tor_sums.specs.declared.how.TheConstants.{MAX_WORKERS}
 use Rattle.tor_streams.specs.declared.streams.TheConstants.{MAX_UNIT_LENGTH}
 use Rattle.tor_merkle.specs.Layer.{is_piece_length}
 use Rattle.tor_meta.specs.Head.{settings_of}
+use Rattle.tor_source.specs.Answers.{Answers}
 use Rattle.tor_meta.specs.Make.{IsGivenTo, make_refusal, numbers_refusal}
 use Rattle.tor_meta.specs.MakeError.{of_contents_error, out_of_resources}
 use Rattle.tor_meta.specs.Order.{is_span, settings_of_order}
@@ -107,9 +108,8 @@ module _ (settings : Settings) (paths : List (List (List ℕ))) (e : ContentsErr
   not_of_lengths =
       of_either NotOfLengths (shape_refusal settings paths) _ e shape_not_of_lengths ordered_not_of_lengths
 
-module _ {F : Type 0} (gave : ℕ → Option ℕ → F → Type 0) (told : ℕ → Option ℕ → Type 0) (ended : ℕ → ℕ → Type 0)
-    (count : ℕ) where
-  of_contents : (e : ContentsError) → NotOfLengths e → IsGivenTo gave told ended count (of_contents_error e)
+module _ {F : Type 0} (answers : Answers F) (count : ℕ) where
+  of_contents : (e : ContentsError) → NotOfLengths e → IsGivenTo answers count (of_contents_error e)
   of_contents refusal.PieceLength not_lengths = tt
   of_contents refusal.Path not_lengths = tt
   of_contents refusal.SingleShape not_lengths = tt
@@ -123,9 +123,9 @@ module _ {F : Type 0} (gave : ℕ → Option ℕ → F → Type 0) (told : ℕ �
 
   -- no refusal is a fault of the source
   pub not_of_source : (order : Order) (paths : List (List (List ℕ))) (e : MakeError F)
-      → make_refusal order paths ≡ Some e → IsGivenTo gave told ended count e
+      → make_refusal order paths ≡ Some e → IsGivenTo answers count e
   not_of_source order paths e is =
-      let P : MakeError F → Type 0 = λ e. IsGivenTo gave told ended count e in
+      let P : MakeError F → Type 0 = λ e. IsGivenTo answers count e in
       of_either P (numbers_refusal order)
       (option_map of_contents_error (paths_refusal (settings_of_order order) paths)) e
       (of_test P (not (is_piece_length order.piece_length)) PieceLength e _ tt
@@ -135,8 +135,8 @@ module _ {F : Type 0} (gave : ℕ → Option ℕ → F → Type 0) (told : ℕ �
       (λ refused named. of_contents refused (not_of_lengths (settings_of_order order) paths refused named))) is
 
   pub given_or_not : (order : Order) (paths : List (List (List ℕ))) (e : MakeError F)
-      → (e ≡ out_of_resources) ⊎ (make_refusal order paths ≡ Some e) → IsGivenTo gave told ended count e
-  given_or_not order paths e (inl none) = subst (λ e. IsGivenTo gave told ended count e) (sym none) tt
+      → (e ≡ out_of_resources) ⊎ (make_refusal order paths ≡ Some e) → IsGivenTo answers count e
+  given_or_not order paths e (inl none) = subst (λ e. IsGivenTo answers count e) (sym none) tt
   given_or_not order paths e (inr is) = not_of_source order paths e is
 
 -- of readers: the same for their refusals

@@ -6,6 +6,7 @@ use Rattle.std.proofs.lemmas.List.{get_or-map, length-map}
 use Rattle.std.proofs.lemmas.List.Elements.{recursion_from_All}
 use Rattle.std.proofs.lemmas.List.FromFn.{get_or-map-range_with_len, length-map-range_with_len}
 use Rattle.tor_sums.specs.Contents.{contents_in}
+use Rattle.tor_source.specs.Answers.{Answers}
 use Rattle.tor_sums.specs.Given.{HasToldLengths}
 use Rattle.tor_meta.specs.Make.{content_at, listed_files}
 use Rattle.tor_meta.proofs.Indexed.{indices_within}
@@ -31,14 +32,15 @@ entries_within n entries indices count =
     each (e ∷ es) h = (h.0, each es h.1)
 
 -- lengths that were told of the files, in the order of the list
-pub told_of_listed : (told : ℕ → Option ℕ → Type 0) (lengths : List ℕ) (entries : Entries)
-    → AreWithin (length lengths) entries → HasToldLengths told lengths → (file : ℕ) → file < length (indices_of entries)
-    → told (get_or (indices_of entries) file 0)
+pub told_of_listed : {F : Type 0} (answers : Answers F) (lengths : List ℕ) (entries : Entries)
+    → AreWithin (length lengths) entries → HasToldLengths answers lengths
+    → (file : ℕ) → file < length (indices_of entries)
+    → answers.told (get_or (indices_of entries) file 0)
     (Some (get_or (lengths_of (map (λ entry. (entry.0, get_or lengths entry.1 0)) entries)) file 0))
-told_of_listed told lengths [] within are file less = let none : ⊥ = omega (arith, less) in absurd none
-told_of_listed told lengths (entry ∷ entries) (here, rest) are zero less = are entry.1 here
-told_of_listed told lengths (entry ∷ entries) (here, rest) are (suc k) less =
-    told_of_listed told lengths entries rest are k (omega (arith, less))
+told_of_listed answers lengths [] within are file less = let none : ⊥ = omega (arith, less) in absurd none
+told_of_listed answers lengths (entry ∷ entries) (here, rest) are zero less = are entry.1 here
+told_of_listed answers lengths (entry ∷ entries) (here, rest) are (suc k) less =
+    told_of_listed answers lengths entries rest are k (omega (arith, less))
 
 module _ {F : Type 0} (facts : SourceFacts F) where
   length_there : (n k : ℕ) → k < n → get_or (map length (contents_in facts n)) k 0 ≡ length (content_at facts k)

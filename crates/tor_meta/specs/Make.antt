@@ -5,7 +5,7 @@ use Rattle.std.specs.List.{enumerate_from, range_with_len}
 use Rattle.std.specs.Option.{option_or}
 use Rattle.tor_sums.specs.Contents.{contents_in}
 use Rattle.tor_sums.specs.Fault.{first_of, length_fault}
-use Rattle.tor_sums.specs.Given.{Departs, HasToldLengths}
+use Rattle.tor_sums.specs.Given.{Departs, HasCause, HasToldLengths}
 use Rattle.tor_sums.specs.How.{is_how}
 use Rattle.tor_merkle.specs.Layer.{is_piece_length}
 use Rattle.tor_meta.specs.Contents.{files_with}
@@ -16,6 +16,7 @@ use Rattle.tor_meta.specs.Refusal.{paths_refusal}
 use Rattle.tor_meta.specs.declared.make_error.MakeError.{MakeError}
 use Rattle.tor_meta.specs.declared.make_error.MakeError.TheVariants.{PieceLength, Workers, Span, List, Hashing}
 use Rattle.tor_meta.specs.declared.order.Order.{Order}
+use Rattle.tor_source.specs.Answers.{Answers}
 use Rattle.tor_source.specs.Source.{SourceFacts}
 use Rattle.tor_spec.specs.Facts.{File}
 use Rattle.tor_spec.specs.Metainfo.{metainfo}
@@ -96,37 +97,38 @@ pub record IsMakeFault {F : Type 0} (facts : SourceFacts F) (order : Order) (pat
 
 -- the torrent of some files with these paths, letters and told lengths. They are in the order of their paths, and the
 -- length is one that was told of the file under the path's index (profile)
-pub record IsMadeOfTold (told : ℕ → Option ℕ → Type 0) (settings : Settings)
+pub record IsMadeOfTold {F : Type 0} (answers : Answers F) (settings : Settings)
     (files : ListOf (ListOf (ListOf ℕ) × Attr)) (bytes : ListOf ℕ) : Type 0 where
   pub entries : ListOf (ListOf (ListOf ℕ) × ℕ)
   pub contents : ListOf (ListOf ℕ)
   pub indexed : AreIndexedPaths (paths_of files) entries × IsInPathOrder entries
   pub one_each : length contents ≡ length entries
   pub are_told : (k : ℕ) → k < length entries →
-      told (slice_index_or (indices_of entries) k 0) (Some (length (slice_index_or contents k [])))
+      answers.told (slice_index_or (indices_of entries) k 0) (Some (length (slice_index_or contents k [])))
   pub made : bytes ≡ metainfo settings (files_with (lettered files entries) contents)
 
 -- a length was told of this file, and the source does not keep to it (profile)
-abbrev pub IsToldChanged : (ℕ → Option ℕ → Type 0) → (ℕ → ℕ → Type 0) → ℕ → Type 0
-IsToldChanged told ended file = (size : ℕ) × told file (Some size) × Departs told ended file (Some size)
+abbrev pub IsToldChanged : {F : Type 0} → Answers F → ℕ → Type 0
+IsToldChanged answers file = (size : ℕ) × answers.told file (Some size) × Departs answers file (Some size)
 
 -- lengths were told of so many files that are too large for a list (profile)
-abbrev pub AreToldTooLarge : (ℕ → Option ℕ → Type 0) → ℕ → Type 0
-AreToldTooLarge told count =
-    (lengths : ListOf ℕ) × (length lengths ≡ count) × HasToldLengths told lengths
+abbrev pub AreToldTooLarge : {F : Type 0} → Answers F → ℕ → Type 0
+AreToldTooLarge answers count =
+    (lengths : ListOf ℕ) × (length lengths ≡ count) × HasToldLengths answers lengths
     × (lengths_fault lengths ≡ Some TooLarge)
 
 -- what is answered of the source it gave or told. It is so of any source, steady or not: a fault for this file and
 -- offset, that a file is missing, lengths that it did not keep to, or that are too large; the file that is named is one
 -- of so many; no stream is read (profile)
-abbrev pub IsGivenTo : {F : Type 0} → (ℕ → Option ℕ → F → Type 0) → (ℕ → Option ℕ → Type 0) → (ℕ → ℕ → Type 0) → ℕ
-    → MakeError F → Type 0
-IsGivenTo gave told ended count (Hashing (engine.Read file start fault)) = gave file start fault × (file < count)
-IsGivenTo gave told ended count (Hashing (engine.Changed file)) = IsToldChanged told ended file × (file < count)
-IsGivenTo gave told ended count (Hashing (engine.Missing file)) = told file None × (file < count)
-IsGivenTo gave told ended count (Hashing (engine.StreamTooLong file)) = ⊥
-IsGivenTo gave told ended count (List TooLarge) = AreToldTooLarge told count
-IsGivenTo gave told ended count other = Unit {0}
+abbrev pub IsGivenTo : {F : Type 0} → Answers F → ℕ → MakeError F → Type 0
+IsGivenTo answers count (Hashing error) = HasCause (record {
+  count = count;
+  fault = answers.gave;
+  changed = IsToldChanged answers;
+  missing = λ file. answers.told file None;
+}) error
+IsGivenTo answers count (List TooLarge) = AreToldTooLarge answers count
+IsGivenTo answers count other = Unit {0}
 
 -- a refusal that is answered is the first that there is. It is one of the order or the paths; other answers are of the
 -- source or its lengths, or want of memory (profile)

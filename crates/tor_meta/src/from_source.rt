@@ -41,7 +41,7 @@ pub fn make<S: Source, R: Threads + Sync>(
     ensures whole { IfOk result
         (λ bytes. IsMadeOfSome (settings_of_order order.now) (without_letters paths.now) bytes.items) }
     ensures told { IfOk result (λ bytes.
-        IsMadeOfTold (S.told source.now) (settings_of_order order.now) (without_letters paths.now) bytes.items) }
+        IsMadeOfTold (S.answers source.now) (settings_of_order order.now) (without_letters paths.now) bytes.items) }
     ensures info { IfOk result (λ bytes. HasInfo bytes.items) }
     ensures fault { (facts : SourceFacts S.Fault) → S.is_steady source.now facts → MatchResult result
         (λ _. IsMakeFault facts order.now paths.now None)
@@ -50,8 +50,7 @@ pub fn make<S: Source, R: Threads + Sync>(
     ensures refused { (refusal : MakeError S.Fault) → make_refusal order.now paths.now ≡ Some refusal →
         IfErr result (λ error. (error ≡ out_of_resources) ⊎ (error ≡ refusal)) }
     ensures only { IfErr result (IsOwn (make_refusal order.now paths.now)) }
-    ensures gave { IfErr result
-        (IsGivenTo (S.gave source.now) (S.told source.now) (S.ended source.now) (length paths.now)) }
+    ensures gave { IfErr result (IsGivenTo (S.answers source.now) (length paths.now)) }
 {
     let files = without_letters(alloc, paths)?;
     make_with(rt, alloc, source, &files, order)
@@ -73,7 +72,7 @@ pub fn make_with<S: Source, R: Threads + Sync>(
         (λ bytes. IsMadeOf (settings_of_order order.now) (files_of_source facts files.now) bytes.items) }
     ensures whole { IfOk result (λ bytes. IsMadeOfSome (settings_of_order order.now) files.now bytes.items) }
     ensures told { IfOk result (λ bytes.
-        IsMadeOfTold (S.told source.now) (settings_of_order order.now) files.now bytes.items) }
+        IsMadeOfTold (S.answers source.now) (settings_of_order order.now) files.now bytes.items) }
     ensures info { IfOk result (λ bytes. HasInfo bytes.items) }
     ensures fault { (facts : SourceFacts S.Fault) → S.is_steady source.now facts → MatchResult result
         (λ _. IsMakeFault facts order.now (paths_of files.now) None)
@@ -82,8 +81,7 @@ pub fn make_with<S: Source, R: Threads + Sync>(
     ensures refused { (refusal : MakeError S.Fault) → make_refusal order.now (paths_of files.now) ≡ Some refusal →
         IfErr result (λ error. (error ≡ out_of_resources) ⊎ (error ≡ refusal)) }
     ensures only { IfErr result (IsOwn (make_refusal order.now (paths_of files.now))) }
-    ensures gave { IfErr result
-        (IsGivenTo (S.gave source.now) (S.told source.now) (S.ended source.now) (length files.now)) }
+    ensures gave { IfErr result (IsGivenTo (S.answers source.now) (length files.now)) }
 {
     let head = order.head(alloc)?;
     let paths = match judge(alloc, order, &head, files) {
@@ -161,7 +159,7 @@ fn ask_lettered<S: Source>(
     paths: PathList,
 ) -> Result<(FileList, Vec<usize>), MakeError<S::Fault>>
     ensures list { IfOk result (λ both. (lengths : List ℕ) × (length lengths ≡ length paths)
-        × HasToldLengths (S.told source.now) lengths
+        × HasToldLengths (S.answers source.now) lengths
         × (both.0.files ≡ map (λ entry. (entry.0, slice_index lengths entry.1)) paths)) }
     ensures letters { IfOk result (λ both. both.0.attrs ≡ map (letters_at files.now) (indices_of paths)) }
     ensures indices { IfOk result (λ both. both.1.items ≡ indices_of paths) }
@@ -171,8 +169,7 @@ fn ask_lettered<S: Source>(
         (λ _. asked_fault facts (length paths) ≡ None)
         (λ error. (error ≡ out_of_resources) ⊎ (asked_fault facts (length paths) ≡ Some error)) }
     ensures only { (first : Option (MakeError S.Fault)) → IfErr result (IsOwn first) }
-    ensures gave { IfErr result
-        (IsGivenTo (S.gave source.now) (S.told source.now) (S.ended source.now) (length paths)) }
+    ensures gave { IfErr result (IsGivenTo (S.answers source.now) (length paths)) }
 {
     let (list, indices) = match ask_list(alloc, source, paths) {
         Ok(both) => both,
@@ -189,7 +186,7 @@ fn ask_list<S: Source>(
     paths: PathList,
 ) -> Result<(FileList, Vec<usize>), MakeError<S::Fault>>
     ensures list { IfOk result (λ both. (lengths : List ℕ) × (length lengths ≡ length paths)
-        × HasToldLengths (S.told source.now) lengths
+        × HasToldLengths (S.answers source.now) lengths
         × (both.0.files ≡ map (λ entry. (entry.0, slice_index lengths entry.1)) paths)) }
     ensures indices { IfOk result (λ both. both.1.items ≡ indices_of paths) }
     ensures files { (facts : SourceFacts S.Fault) → S.is_steady source.now facts →
@@ -198,8 +195,7 @@ fn ask_list<S: Source>(
         (λ _. asked_fault facts (length paths) ≡ None)
         (λ error. (error ≡ out_of_resources) ⊎ (asked_fault facts (length paths) ≡ Some error)) }
     ensures only { (first : Option (MakeError S.Fault)) → IfErr result (IsOwn first) }
-    ensures gave { IfErr result
-        (IsGivenTo (S.gave source.now) (S.told source.now) (S.ended source.now) (length paths)) }
+    ensures gave { IfErr result (IsGivenTo (S.answers source.now) (length paths)) }
 {
     let lengths = match ask_lengths(alloc, source, paths.entries().len()) {
         Ok(lengths) => lengths,

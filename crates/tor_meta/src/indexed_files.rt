@@ -13,23 +13,15 @@ pub(crate) struct Indexed<'a, S: Source> {
 }
 
 impl<'a, S: Source> Source for Indexed<'a, S> {
-    ghost use Rattle.std.specs.Prelude.{◌<◌, length, slice_index};
     ghost use Rattle.tor_source.specs.Source.{SourceFacts};
-    ghost use Rattle.tor_meta.specs.steps.IndexedFiles.{facts_at};
+    ghost use Rattle.tor_meta.specs.steps.IndexedFiles.{answers_at, facts_at};
 
     type Fault = S::Fault;
 
     ghost is_steady = { λ indexed facts. (of_source : SourceFacts S.Fault) ×
         S.is_steady indexed.source.now of_source × (facts ≡ facts_at indexed.indices.now of_source) };
 
-    ghost gave = { λ indexed file offset fault. (file < length indexed.indices.now) ×
-        S.gave indexed.source.now (slice_index indexed.indices.now file) offset fault };
-
-    ghost told = { λ indexed file size. file < length indexed.indices.now →
-        S.told indexed.source.now (slice_index indexed.indices.now file) size };
-
-    ghost ended = { λ indexed file start. file < length indexed.indices.now →
-        S.ended indexed.source.now (slice_index indexed.indices.now file) start };
+    ghost answers = { λ indexed. answers_at indexed.indices.now (S.answers indexed.source.now) };
 
     fn length(&self, file: u64) -> Result<Option<u64>, S::Fault> {
         match self.indices.get(file as usize) {

@@ -51,8 +51,7 @@ pub(crate) fn torrent_of_listed<S: Source, R: Threads + Sync>(
     ensures whole { IfOk result (λ bytes. (contents : List (List ℕ)) × (map length contents ≡ lengths_of list.now.files)
         × (bytes.items ≡ metainfo (settings_of head.now) (files_of list.now contents))) }
     ensures info { IfOk result (λ bytes. HasInfo bytes.items) }
-    ensures gave { IfErr result
-        (IsGivenNotMissing (S.gave source.now) (S.told source.now) (S.ended source.now) (lengths_of list.now.files)) }
+    ensures gave { IfErr result (IsGivenNotMissing (S.answers source.now) (lengths_of list.now.files)) }
 {
     let sums = match sums_of_listed(rt, alloc, source, list, head, span, how) {
         Ok(sums) => sums,
@@ -82,8 +81,7 @@ fn sums_of_listed<S: Source, R: Threads + Sync>(
         × (first_byte_fault facts (lengths_of list.now.files) ≡ None))
         (IsFault (first_byte_fault facts (lengths_of list.now.files))) }
     ensures whole { IfOk result (SumUpSome head.now list.now.files) }
-    ensures gave { IfErr result
-        (IsGivenNotMissing (S.gave source.now) (S.told source.now) (S.ended source.now) (lengths_of list.now.files)) }
+    ensures gave { IfErr result (IsGivenNotMissing (S.answers source.now) (lengths_of list.now.files)) }
 {
     let plan = plan_of_listed(alloc, list, head, span)?;
     let sums = match hash_told(rt, alloc, source, &plan, how) {

@@ -38,7 +38,7 @@ pub fn hash_dealt<S: Source, R: Threads + Sync>(
         × IsRowOf plan.now contents (dealt lots lot plan.now.units) row.hashes.items row.pieces.items) }
     ensures there { (facts : SourceFacts S.Fault) → S.is_steady source.now facts →
         OnOk result (HasBytesAt facts (dealt lots lot plan.now.units)) }
-    ensures gave { IfErr result (IsGivenRead (S.gave source.now) (S.ended source.now) plan.now.lengths) }
+    ensures gave { IfErr result (IsGivenRead (S.answers source.now) plan.now.lengths) }
 {
     let (from, to) = deal(plan, lots, lot);
     hash_lot(rt, alloc, source, plan, from, to, how)

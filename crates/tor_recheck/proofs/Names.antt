@@ -44,6 +44,7 @@ pub use Rattle.tor_bencode.specs.Span.{span_of}
 pub use Rattle.tor_check.specs.ValidViews.{IsViewOfValid}
 pub use Rattle.tor_sums.specs.Contents.{contents_in}
 unfoldable pub use Rattle.tor_sums.specs.Fault.{first_of}
+pub use Rattle.tor_source.specs.Answers.{Answers}
 pub use Rattle.tor_sums.specs.Given.{HasTold, IsGivenPieces}
 pub use Rattle.tor_engine.specs.PieceFault.{asked_fault, first_asked_fault, first_piece_fault, lengths_told}
 pub use Rattle.tor_engine.specs.PieceFault.{pieces_fault}

@@ -3,7 +3,7 @@ use Rattle.tor_recheck.proofs.Names.{◌≡◌, ℕ, [], Option, None, option_ma
 use Rattle.tor_recheck.proofs.Names.{contents_in, IsGivenPieces, first_asked_fault, first_piece_fault, pieces_fault}
 use Rattle.tor_recheck.proofs.Names.{EngineError, Read, Changed, Missing, Resources, StreamTooLong, PlanFacts}
 use Rattle.tor_recheck.proofs.Names.{plan_of_entries, IsCut, entries_to_cut, IsFault, IsGiven, first_fault}
-use Rattle.tor_recheck.proofs.Names.{of_engine_error, SourceFacts, View}
+use Rattle.tor_recheck.proofs.Names.{of_engine_error, Answers, SourceFacts, View}
 use Rattle.tor_recheck.proofs.Rechecked.{count_is, pieces_are}
 use Rattle.tor_sums.specs.Fault as engine
 
@@ -28,12 +28,11 @@ module _ {F : Type 0} (facts : SourceFacts F) (view : View) (cut : IsCut view) w
   same_fault error (inl memory) = inl (ap of_engine_error memory)
   same_fault error (inr first) = inr (sym same_first ∙ ap (option_map of_engine_error) first)
 
-module _ {F : Type 0} (gave : ℕ → Option ℕ → F → Type 0) (told : ℕ → Option ℕ → Type 0) (ended : ℕ → ℕ → Type 0)
-    (count : ℕ) where
-  pub given_of : (error : EngineError F) → IsGivenPieces gave told ended count error
-      → IsGiven gave told ended count (of_engine_error error)
+module _ {F : Type 0} (answers : Answers F) (count : ℕ) where
+  pub given_of : (error : EngineError F) → IsGivenPieces answers count error
+      → IsGiven answers count (of_engine_error error)
   given_of (Read file start fault) given = given
   given_of (Changed file) given = given
-  given_of (Missing file) given = absurd given
+  given_of (Missing file) given = absurd given.0
   given_of Resources given = given
   given_of (StreamTooLong file) given = absurd given

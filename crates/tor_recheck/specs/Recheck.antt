@@ -1,15 +1,16 @@
 -- What a recheck tells of a source: which pieces are there and right, or why that is not answered.
-use Rattle.std.specs.Prelude.{◌≡◌, ◌⊎◌, ℕ, ◌<◌, length, Option, Some}
+use Rattle.std.specs.Prelude.{◌≡◌, ◌⊎◌, ℕ, length, Option, Some}
 use Rattle.std.specs.Prelude.{option_map}
 use Rattle.std.specs.Option.{option_or}
 use Rattle.tor_sums.specs.Contents.{contents_in}
-use Rattle.tor_sums.specs.Given.{Departs}
+use Rattle.tor_sums.specs.Given.{IsGivenPieces}
 use Rattle.tor_engine.specs.PieceFault.{first_asked_fault, pieces_fault}
 use Rattle.tor_sums.specs.declared.errors.EngineError.{EngineError}
 use Rattle.tor_sums.specs.declared.errors.EngineError.TheVariants as engine
 use Rattle.tor_recheck.specs.Pieces.{pieces_of}
 use Rattle.tor_recheck.specs.declared.errors.RecheckError.{RecheckError}
 use Rattle.tor_recheck.specs.declared.errors.RecheckError.TheVariants.{Read, Changed, Resources, Workers}
+use Rattle.tor_source.specs.Answers.{Answers}
 use Rattle.tor_source.specs.Source.{SourceFacts}
 use Rattle.tor_spec.specs.valid.View.{View}
 
@@ -34,10 +35,8 @@ IsFault first error = (error ≡ Resources) ⊎ (first ≡ Some error)
 
 -- what is answered of the source it gave or told, steady or not: a fault for this file and offset; a size of a changed
 -- file, to which it did not keep. The file that is named is one of so many
-abbrev pub IsGiven : {F : Type 0} → (ℕ → Option ℕ → F → Type 0) → (ℕ → Option ℕ → Type 0) → (ℕ → ℕ → Type 0) → ℕ
-    → RecheckError F → Type 0
-IsGiven gave told ended count (Read file start fault) = gave file start fault × (file < count)
-IsGiven gave told ended count (Changed file) =
-    ((size : Option ℕ) × told file size × Departs told ended file size) × (file < count)
-IsGiven gave told ended count Resources = Unit {0}
-IsGiven gave told ended count Workers = Unit {0}
+abbrev pub IsGiven : {F : Type 0} → Answers F → ℕ → RecheckError F → Type 0
+IsGiven answers count (Read file start fault) = IsGivenPieces answers count (engine.Read file start fault)
+IsGiven answers count (Changed file) = IsGivenPieces answers count (engine.Changed file)
+IsGiven answers count Resources = Unit {0}
+IsGiven answers count Workers = Unit {0}

@@ -49,8 +49,7 @@ pub fn recheck<S: Source, R: Threads + Sync>(
         (IsFault (first_fault facts torrent.now)) }
     ensures counted { IfOk result (λ bits. length bits ≡ torrent.now.piece_count) }
     ensures allowed { IsHow how → IfErr result (λ error. error ≢ Workers) }
-    ensures gave { IfErr result
-        (IsGiven (S.gave source.now) (S.told source.now) (S.ended source.now) (length torrent.now.files)) }
+    ensures gave { IfErr result (IsGiven (S.answers source.now) (length torrent.now.files)) }
 {
     let found = match found_in(rt, alloc, source, torrent, how) {
         Ok(found) => found,
@@ -76,15 +75,14 @@ pub(crate) fn found_in<S: Source, R: Threads + Sync>(
         × (found.lengths.items ≡ lengths_told facts (length torrent.now.files))
         × (first_fault facts torrent.now ≡ None))
         (IsFault (first_fault facts torrent.now)) }
-    ensures told { IfOk result (λ found. HasTold (S.told source.now) found.lengths.items) }
+    ensures told { IfOk result (λ found. HasTold (S.answers source.now) found.lengths.items) }
     ensures there { IfOk result
         (λ found. HaveHashesOf found.lengths.items (pieces_of torrent.now) found.hashes.items) }
     ensures counted { IfOk result (λ found. (length found.hashes.items ≡ torrent.now.piece_count)
         × (length found.lengths.items ≡ length torrent.now.files)) }
     ensures cut { OnOk result (IsCut torrent.now) }
     ensures allowed { IsHow how → IfErr result (λ error. error ≢ Workers) }
-    ensures gave { IfErr result
-        (IsGiven (S.gave source.now) (S.told source.now) (S.ended source.now) (length torrent.now.files)) }
+    ensures gave { IfErr result (IsGiven (S.answers source.now) (length torrent.now.files)) }
 {
     if !how.is_allowed() {
         return Err(RecheckError::Workers);

@@ -53,11 +53,10 @@ pub fn recheck_files<S: Source, R: Threads + Sync>(
         (IsFault (first_fault facts torrent.now)) }
     ensures counted { IfOk result (λ told. (length told.bits ≡ torrent.now.piece_count)
         × (length told.files.items ≡ length torrent.now.files)) }
-    ensures told { IfOk result (λ told. HasTold (S.told source.now) (map (λ file. file.there) told.files.items)) }
+    ensures told { IfOk result (λ told. HasTold (S.answers source.now) (map (λ file. file.there) told.files.items)) }
     ensures there { IfOk result (AreFoundWithin torrent.now) }
     ensures allowed { IsHow how → IfErr result (λ error. error ≢ Workers) }
-    ensures gave { IfErr result
-        (IsGiven (S.gave source.now) (S.told source.now) (S.ended source.now) (length torrent.now.files)) }
+    ensures gave { IfErr result (IsGiven (S.answers source.now) (length torrent.now.files)) }
 {
     let found = match found_in(rt, alloc, source, torrent, how) {
         Ok(found) => found,

@@ -1,7 +1,7 @@
 //! Files in memory, of which some lengths and some bytes fail.
-ghost use Rattle.std.specs.Prelude.{◌≡◌, ◌<◌, ◌≤◌, ℕ, false, None, Some, length, option_map};
-ghost use Rattle.tor_source.specs.Source.{bytes_from, fault_at};
-ghost use Rattle.tor_source.specs.Sources.{content_of, fail_facts, first_fault, is_at};
+ghost use Rattle.std.specs.Prelude.{◌≡◌, ◌<◌, ◌≤◌, ℕ, false, None, Some};
+ghost use Rattle.tor_source.specs.Answers.{answers_of};
+ghost use Rattle.tor_source.specs.Sources.{fail_facts, first_fault, is_at};
 
 use crate::memory::MemSource;
 use crate::source::Source;
@@ -39,11 +39,7 @@ impl Source for FailSource {
 
     ghost is_steady = { λ source facts. facts ≡ fail_facts source };
 
-    ghost gave = { λ source file offset fault. fault_at (fail_facts source) file offset ≡ Some fault };
-
-    ghost told = { λ source file size. size ≡ option_map length (content_of source.files file) };
-
-    ghost ended = { λ source file start. length (bytes_from (fail_facts source) file start) ≡ 0 };
+    ghost answers = { λ source. answers_of (fail_facts source) };
 
     fn length(&self, file: u64) -> Result<Option<u64>, u64> {
         match first_fault(&self.faults, file, None) {

@@ -5,6 +5,7 @@ ghost use Rattle.std.specs.List.{All};
 ghost use Rattle.std.specs.List.Sorted.{IsStrictlySortedBy};
 ghost use Rattle.std.specs.IoError.{error_kind};
 ghost use Rattle.std.specs.String.{string_bytes};
+ghost use Rattle.tor_source.specs.Answers.{system_answers};
 ghost use Rattle.tor_source.specs.Faults.{is_absence};
 ghost use Rattle.tor_source.specs.Places.{place_of};
 ghost use Rattle.tor_source.specs.declared.faults.ScanFault.TheVariants.{Memory, System};
@@ -174,12 +175,7 @@ where
 
     ghost is_steady = { λ _ _. ⊥ };
 
-    ghost gave = { λ source file offset fault.
-        (file < length source) × (offset ≡ None → is_absence (error_kind fault) ≡ false) };
-
-    ghost told = { λ source file size. length source ≤ file → size ≡ None };
-
-    ghost ended = { λ _ _ _. Unit {0} };
+    ghost answers = { λ source. system_answers (length source) };
 
     fn length(&self, file: u64) -> io::Result<Option<u64>>
         ensures gave { IfErr result

@@ -1,5 +1,6 @@
 //! Files in memory.
 ghost use Rattle.std.specs.Prelude.{◌≡◌, None, Some, MatchOption, length, map, min, option_map, take, vec_items};
+ghost use Rattle.tor_source.specs.Answers.{answers_of};
 ghost use Rattle.tor_source.specs.Source.{bytes_from};
 ghost use Rattle.tor_source.specs.Sources.{content_of, mem_facts};
 
@@ -61,11 +62,7 @@ impl Source for MemSource {
 
     ghost is_steady = { λ source facts. facts ≡ mem_facts source };
 
-    ghost gave = { λ _ _ _ _. ⊥ };
-
-    ghost told = { λ source file size. size ≡ option_map length (content_of source file) };
-
-    ghost ended = { λ source file start. length (bytes_from (mem_facts source) file start) ≡ 0 };
+    ghost answers = { λ source. answers_of (mem_facts source) };
 
     fn length(&self, file: u64) -> Result<Option<u64>, u64> {
         match self.content(file) {

@@ -1,7 +1,8 @@
 //! Files in memory that are read in small steps.
-ghost use Rattle.std.specs.Prelude.{◌≡◌, ◌≤◌, ◌<◌, ℕ, IfErr, IfOk, Ok, length, option_map};
+ghost use Rattle.std.specs.Prelude.{◌≡◌, ◌≤◌, ◌<◌, ℕ, IfErr, IfOk, Ok, length};
+ghost use Rattle.tor_source.specs.Answers.{answers_of};
 ghost use Rattle.tor_source.specs.Source.{IsReadAt, SourceFacts, bytes_from};
-ghost use Rattle.tor_source.specs.Sources.{content_of, mem_facts};
+ghost use Rattle.tor_source.specs.Sources.{mem_facts};
 
 use crate::memory::MemSource;
 use crate::source::Source;
@@ -42,11 +43,7 @@ impl Source for ShortSource {
 
     ghost is_steady = { λ source facts. facts ≡ mem_facts source.files };
 
-    ghost gave = { λ _ _ _ _. ⊥ };
-
-    ghost told = { λ source file size. size ≡ option_map length (content_of source.files file) };
-
-    ghost ended = { λ source file start. length (bytes_from (mem_facts source.files) file start) ≡ 0 };
+    ghost answers = { λ source. answers_of (mem_facts source.files) };
 
     fn length(&self, file: u64) -> Result<Option<u64>, u64> {
         self.files.length(file)

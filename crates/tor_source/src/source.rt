@@ -1,5 +1,6 @@
 //! Where the bytes of files come from: each file by its number.
-ghost use Rattle.std.specs.Prelude.{◌≡◌, ◌≤◌, ◌<◌, ℕ, Option, None, Some, Ok, IfErr, IfOk, length};
+ghost use Rattle.std.specs.Prelude.{◌≡◌, ◌≤◌, ◌<◌, None, Some, Ok, IfErr, IfOk, length};
+ghost use Rattle.tor_source.specs.Answers.{Answers};
 ghost use Rattle.tor_source.specs.Source.{IsReadAt, SourceFacts, told_length};
 
 use std::fmt::Debug;
@@ -21,21 +22,14 @@ pub trait Source: Sync {
     /// The source answers as these facts say, each time.
     ghost is_steady: { Self → SourceFacts Self.Fault → Type 0 };
 
-    /// The source gave this fault for this file: for its length (None), or for the byte at an offset. Generic code
-    /// learns it from a call alone.
-    ghost gave: { Self → ℕ → Option ℕ → Self.Fault → Type 0 };
-
-    /// The source told this length of this file, or with None that it is missing. Learned as `gave` is.
-    ghost told: { Self → ℕ → Option ℕ → Type 0 };
-
-    /// A read of this file from this offset on gave no byte, though the buffer had room. Learned as `gave` is.
-    ghost ended: { Self → ℕ → ℕ → Type 0 };
+    /// What the source answered. Generic code learns it from a call alone.
+    ghost answers: { Self → Answers Self.Fault };
 
     /// How many bytes a file has; None if it is missing.
     fn length(&self, file: u64) -> Result<Option<u64>, Self::Fault>
         ensures steady { (facts : SourceFacts Self.Fault) → is_steady self.now facts → result ≡ told_length facts file }
-        ensures gave { IfErr result (gave self.now file None) }
-        ensures told { IfOk result (told self.now file) };
+        ensures gave { IfErr result ((answers self.now).gave file None) }
+        ensures told { IfOk result ((answers self.now).told file) };
 
     /// Reads bytes of a file from an offset on into the buffer, and tells how many; what stands in the buffer after
     /// them is not said. A missing file has none.
@@ -43,6 +37,6 @@ pub trait Source: Sync {
         ensures steady { (facts : SourceFacts Self.Fault) → is_steady self.now facts →
             IsReadAt facts file start buffer.old buffer.new result }
         ensures within { IfOk result (λ count. count ≤ length buffer.old) }
-        ensures gave { IfErr result (gave self.now file (Some start)) }
-        ensures ended { result ≡ Ok 0 → 0 < length buffer.old → ended self.now file start };
+        ensures gave { IfErr result ((answers self.now).gave file (Some start)) }
+        ensures ended { result ≡ Ok 0 → 0 < length buffer.old → (answers self.now).ended file start };
 }

@@ -1,5 +1,6 @@
 //! The bytes of files, as one worker reads them.
-ghost use Rattle.std.specs.Prelude.{◌≡◌, ◌<◌, ◌≤◌, ℕ, Option, Some, Ok, IfErr, IfOk, length};
+ghost use Rattle.std.specs.Prelude.{◌≡◌, ◌<◌, ◌≤◌, Some, Ok, IfErr, IfOk, length};
+ghost use Rattle.tor_source.specs.Answers.{Answers};
 ghost use Rattle.tor_source.specs.Source.{IsReadAt, SourceFacts};
 
 use std::fmt::Debug;
@@ -12,17 +13,15 @@ pub trait FileBytes {
 
     ghost is_steady: { Self → SourceFacts Self.Fault → Type 0 };
 
-    ghost gave: { Self → ℕ → Option ℕ → Self.Fault → Type 0 };
-
-    ghost ended: { Self → ℕ → ℕ → Type 0 };
+    ghost answers: { Self → Answers Self.Fault };
 
     /// As `read_at` of `Source`.
     fn bytes_at(&self, file: u64, start: u64, buffer: &mut [u8]) -> Result<usize, Self::Fault>
         ensures steady { (facts : SourceFacts Self.Fault) → is_steady self.now facts →
             IsReadAt facts file start buffer.old buffer.new result }
         ensures within { IfOk result (λ count. count ≤ length buffer.old) }
-        ensures gave { IfErr result (gave self.now file (Some start)) }
-        ensures ended { result ≡ Ok 0 → 0 < length buffer.old → ended self.now file start };
+        ensures gave { IfErr result ((answers self.now).gave file (Some start)) }
+        ensures ended { result ≡ Ok 0 → 0 < length buffer.old → (answers self.now).ended file start };
 }
 
 impl<S: Source> FileBytes for S {
@@ -30,9 +29,7 @@ impl<S: Source> FileBytes for S {
 
     ghost is_steady = { S.is_steady };
 
-    ghost gave = { S.gave };
-
-    ghost ended = { S.ended };
+    ghost answers = { S.answers };
 
     fn bytes_at(&self, file: u64, start: u64, buffer: &mut [u8]) -> Result<usize, S::Fault> {
         self.read_at(file, start, buffer)

@@ -27,7 +27,7 @@ pub(crate) fn read_part<S: FileBytes>(
     ensures fault { (facts : SourceFacts S.Fault) → S.is_steady source.now facts → HasPart facts part.now →
         MatchResult result (λ _. part_fault facts part.now ≡ None) (IsFault (part_fault facts part.now)) }
     ensures gave { (lengths : List ℕ) → IsInFile lengths part.now →
-        IfErr result (IsGivenRead (S.gave source.now) (S.ended source.now) lengths) }
+        IfErr result (IsGivenRead (S.answers source.now) lengths) }
 {
     let mut done = 0;
     'reads: while done < part.length {

@@ -134,7 +134,7 @@ impl Room {
             length (bytes_from facts file start) ≡ 0 → EndsThere facts file start result }
         ensures err { IfErr result (λ _. count_in self.new ≡ count_in self.old) }
         ensures gave { (lengths : List ℕ) → file < length lengths → start < slice_index_or lengths file 0 →
-            IfErr result (IsGivenRead (S.gave source.now) (S.ended source.now) lengths) }
+            IfErr result (IsGivenRead (S.answers source.now) lengths) }
     {
         let most = self.asked(left);
         match read_behind(source, file, start, self.held, most, &mut self.bytes) {
@@ -247,7 +247,7 @@ fn read_behind<S: FileBytes>(
     ensures there { IfOk result (λ count. (facts : SourceFacts S.Fault) → S.is_steady source.now facts →
         count ≤ length (bytes_from facts file start)) }
     ensures gave { (lengths : List ℕ) → file < length lengths → start < slice_index_or lengths file 0 →
-        IfErr result (IsGivenRead (S.gave source.now) (S.ended source.now) lengths) }
+        IfErr result (IsGivenRead (S.answers source.now) lengths) }
 {
     let (_, behind) = bytes.split_at_mut(held);
     let (buffer, _) = behind.split_at_mut(most);

@@ -158,7 +158,7 @@ pub fn sum_unit<S: FileBytes>(
     ensures fault { (facts : SourceFacts S.Fault) → S.is_steady source.now facts → HasParts facts unit.now.parts →
         MatchResult result (λ _. unit_fault facts unit.now ≡ None) (IsFault (unit_fault facts unit.now)) }
     ensures gave { (lengths : List ℕ) → All (IsInFile lengths) unit.now.parts →
-        IfErr result (IsGivenRead (S.gave source.now) (S.ended source.now) lengths) }
+        IfErr result (IsGivenRead (S.answers source.now) lengths) }
 {
     let tree = match read_unit(alloc, source, plan, unit, &mut worker.sums) {
         Ok(tree) => tree,

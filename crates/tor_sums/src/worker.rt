@@ -75,7 +75,7 @@ impl WorkerSums {
             0 < length (bytes_from facts file start) →
             MatchResult result (IsFaultFree facts file start) (IsFault (byte_fault facts file start)) }
         ensures gave { (lengths : List ℕ) → file < length lengths → start < slice_index_or lengths file 0 →
-            IfErr result (IsGivenRead (S.gave source.now) (S.ended source.now) lengths) }
+            IfErr result (IsGivenRead (S.answers source.now) lengths) }
     {
         self.make_room(left)?;
         match self.room.read(source, file, start, left) {

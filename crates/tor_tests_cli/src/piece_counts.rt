@@ -1,4 +1,6 @@
 //! How many pieces of a torrent its own files have, if they have changed since it was made.
+ghost use Rattle.tor_source.specs.Answers.{any_answers};
+
 use std::sync::atomic::AtomicU64;
 use std::sync::atomic::Ordering::SeqCst;
 use std::thread::Threads;
@@ -24,11 +26,7 @@ impl Source for Marked {
 
     ghost is_steady = { λ _ _. ⊥ };
 
-    ghost gave = { λ _ _ _ _. Unit {0} };
-
-    ghost told = { λ _ _ _. Unit {0} };
-
-    ghost ended = { λ _ _ _. Unit {0} };
+    ghost answers = { λ _. any_answers };
 
     fn length(&self, _file: u64) -> Result<Option<u64>, NoFault> {
         Ok(Some(32768))

@@ -21,7 +21,7 @@ use Rattle.tor_spec.specs.valid.View.{View}
 use Rattle.tor_cli.specs.Foreign.{IsNoTorrent, OfSome}
 use Rattle.tor_cli.specs.recheck.FoundFiles.{told_of_files}
 use Rattle.tor_meta.specs.FromInput.{IsFront}
-use Rattle.tor_cli.specs.Place.{IsFileEnd, IsFileFault, IsFileSize}
+use Rattle.tor_source.specs.Answers.{system_answers}
 use Rattle.tor_cli.specs.proof.Proving.{answer_of}
 use Rattle.tor_cli.specs.text.Records.{recheck_line}
 use Rattle.tor_cli.specs.Streams.{IsUntouched, Streams}
@@ -91,7 +91,7 @@ pub record IsRechecked (options : RecheckOptions) (bytes text : List ℕ) (answe
 -- a fault of a file that the torrent has; or, exactly where there is no worker or too many, that
 abbrev pub IsRecheckFault : ℕ → View → RecheckError Error → Type 0
 IsRecheckFault workers view error =
-    IsGiven (IsFileFault (length view.files)) (IsFileSize (length view.files)) IsFileEnd (length view.files) error
+    IsGiven (system_answers (length view.files)) (length view.files) error
     × (IsHow (Board workers) → error ≢ rechecks.Workers) × ((IsHow (Board workers) → ⊥) → error ≡ rechecks.Workers)
     × (error ≢ rechecks.Resources)
 

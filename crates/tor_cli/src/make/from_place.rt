@@ -5,8 +5,9 @@ ghost use Rattle.tor_meta.specs.Contents.{IsMadeOfSome};
 ghost use Rattle.tor_meta.specs.Make.{IsGivenTo, IsOwn, make_refusal};
 ghost use Rattle.tor_meta.specs.MakeStreams.{stream_refusal};
 ghost use Rattle.tor_meta.specs.Order.{settings_of_order};
+ghost use Rattle.tor_source.specs.Answers.{system_answers};
 ghost use Rattle.tor_cli.specs.make.Attrs.{HaveLetters};
-ghost use Rattle.tor_cli.specs.Place.{AreFound, IsFileEnd, IsFileFault, IsFileSize, IsGivenBy, IsStreamFault};
+ghost use Rattle.tor_cli.specs.Place.{AreFound, IsGivenBy, IsStreamFault};
 ghost use Rattle.tor_cli.specs.Place.{IsNotFound, refusal_by};
 ghost use Rattle.tor_tree.specs.FileList.{paths_of};
 ghost use Rattle.tor_cli.specs.make.Request.{IsRefusedFirst};
@@ -138,7 +139,7 @@ fn by_sharing<T: Threads + Sync>(
     ensures refused { IfErr result (IsRefusedFirst (make_refusal order.now (paths_of found.now.files.items))) }
     ensures only { IfErr result (IsOwn (make_refusal order.now (paths_of found.now.files.items))) }
     ensures gave { let count = length found.now.files.items in
-        IfErr result (IsGivenTo (IsFileFault count) (IsFileSize count) IsFileEnd count) }
+        IfErr result (IsGivenTo (system_answers count) count) }
 {
     let counting = Counting {
         source: &found.source,

@@ -49,8 +49,7 @@ pub fn count_pieces<S: Source, T: Threads + Sync>(
         (IsFault (first_fault facts torrent.now)) }
     ensures counted { IfOk result (AreCounted torrent.now) }
     ensures allowed { IsHow (Board workers) → IfErr result (λ error. error ≢ Workers) }
-    ensures gave { IfErr result
-        (IsGiven (S.gave source.now) (S.told source.now) (S.ended source.now) (length torrent.now.files)) }
+    ensures gave { IfErr result (IsGiven (S.answers source.now) (length torrent.now.files)) }
 {
     match recheck(rt, alloc, source, torrent, board_of(workers)) {
         Ok(bits) => Ok(counts_of(&bits)),

@@ -61,8 +61,7 @@ pub fn counted_report<S: Source, T: Threads + Sync>(
     ensures refused { (IsHow (Board options.now.workers) → ⊥) → result ≡ Err Workers }
     ensures workers { OnOk result (IsHow (Board options.now.workers)) }
     ensures allowed { IsHow (Board options.now.workers) → IfErr result (λ error. error ≢ Workers) }
-    ensures gave { IfErr result
-        (IsGiven (S.gave source.now) (S.told source.now) (S.ended source.now) (length torrent.now.files)) }
+    ensures gave { IfErr result (IsGiven (S.answers source.now) (length torrent.now.files)) }
 {
     let counting = Counting {
         source,

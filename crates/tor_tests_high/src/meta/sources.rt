@@ -1,4 +1,5 @@
 //! Torrents of the files of a source, and why there is none.
+ghost use Rattle.tor_source.specs.Answers.{any_answers};
 
 use crate::meta::contents::{ABC, EMPTY_HYBRID, EMPTY_V1, EMPTY_V2, FOLDER_HYBRID, FOLDER_V1};
 use crate::meta::given::{Row, Shape, is, name, paths, source};
@@ -144,11 +145,7 @@ impl Source for Tells {
 
     ghost is_steady = { λ _ _. ⊥ };
 
-    ghost gave = { λ _ _ _ _. Unit {0} };
-
-    ghost told = { λ _ _ _. Unit {0} };
-
-    ghost ended = { λ _ _ _. Unit {0} };
+    ghost answers = { λ _. any_answers };
 
     fn length(&self, _file: u64) -> Result<Option<u64>, u64> {
         self.asked.fetch_add(1, SeqCst);
@@ -357,11 +354,7 @@ impl Source for Changing {
 
     ghost is_steady = { λ _ _. ⊥ };
 
-    ghost gave = { λ _ _ _ _. Unit {0} };
-
-    ghost told = { λ _ _ _. Unit {0} };
-
-    ghost ended = { λ _ _ _. Unit {0} };
+    ghost answers = { λ _. any_answers };
 
     fn length(&self, file: u64) -> Result<Option<u64>, u64> {
         if file == self.file && self.asked.fetch_add(1, SeqCst) > 0 {

@@ -1,4 +1,5 @@
 //! That as many workers hash as an order asks for.
+ghost use Rattle.tor_source.specs.Answers.{any_answers};
 
 use crate::meta::sources::asked;
 use std::sync::atomic::AtomicU64;
@@ -28,11 +29,7 @@ impl Source for Meeting {
 
     ghost is_steady = { λ _ _. ⊥ };
 
-    ghost gave = { λ _ _ _ _. Unit {0} };
-
-    ghost told = { λ _ _ _. Unit {0} };
-
-    ghost ended = { λ _ _ _. Unit {0} };
+    ghost answers = { λ _. any_answers };
 
     fn length(&self, _file: u64) -> Result<Option<u64>, Alone> {
         Ok(Some(65536))

@@ -1,4 +1,5 @@
 //! Whether the workers of a recheck work at once, and what is asked of a source before they are judged.
+ghost use Rattle.tor_source.specs.Answers.{any_answers};
 
 use crate::check::telling::is;
 use crate::recheck::rechecks::torrent_of;
@@ -34,11 +35,7 @@ impl Source for Meeting {
 
     ghost is_steady = { λ _ _. ⊥ };
 
-    ghost gave = { λ _ _ _ _. Unit {0} };
-
-    ghost told = { λ _ _ _. Unit {0} };
-
-    ghost ended = { λ _ _ _. Unit {0} };
+    ghost answers = { λ _. any_answers };
 
     fn length(&self, _file: u64) -> Result<Option<u64>, Alone> {
         self.asked.fetch_add(1, SeqCst);

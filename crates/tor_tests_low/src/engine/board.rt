@@ -2,6 +2,7 @@
 ghost use Rattle.std.specs.Prelude.{◌≡◌, [], length};
 ghost use Rattle.std.specs.Thread.{IsSync};
 ghost use Rattle.tor_board.specs.Seats.{IsSeatOf, forest_of, knows, unit_count};
+ghost use Rattle.tor_source.specs.Answers.{any_answers};
 
 use crate::engine::faults::{FaultAt, failing};
 use crate::engine::shared::{comes_to, is_fault, plan_of};
@@ -179,11 +180,7 @@ impl Source for Late {
 
     ghost is_steady = { λ _ _. ⊥ };
 
-    ghost gave = { λ _ _ _ _. Unit {0} };
-
-    ghost told = { λ _ _ _. Unit {0} };
-
-    ghost ended = { λ _ _ _. Unit {0} };
+    ghost answers = { λ _. any_answers };
 
     fn length(&self, _file: u64) -> Result<Option<u64>, u64> {
         Ok(Some(LENGTH))

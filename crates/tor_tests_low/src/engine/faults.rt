@@ -1,4 +1,5 @@
 //! Which fault is answered: the first of a source, or that of a file that is missing or has changed.
+ghost use Rattle.tor_source.specs.Answers.{any_answers};
 
 use crate::engine::shared::{EACH_HOW, files_of, files_with, is_each_fault, is_fault, plan_of};
 use std::alloc::{AllocError, Global};
@@ -134,11 +135,7 @@ impl Source for Changing {
 
     ghost is_steady = { λ _ _. ⊥ };
 
-    ghost gave = { λ _ _ _ _. Unit {0} };
-
-    ghost told = { λ _ _ _. Unit {0} };
-
-    ghost ended = { λ _ _ _. Unit {0} };
+    ghost answers = { λ _. any_answers };
 
     fn length(&self, file: u64) -> Result<Option<u64>, u64> {
         if file != self.file {

@@ -1,4 +1,5 @@
 //! What is asked of a source: where each read begins and ends, and which of its faults is answered.
+ghost use Rattle.tor_source.specs.Answers.{any_answers};
 
 use crate::engine::faults::{failing, file_that_changes};
 use crate::engine::shared::{files_of, is_each_fault, is_fault, is_told, plan_of};
@@ -29,11 +30,7 @@ impl Source for Watched {
 
     ghost is_steady = { λ _ _. ⊥ };
 
-    ghost gave = { λ _ _ _ _. Unit {0} };
-
-    ghost told = { λ _ _ _. Unit {0} };
-
-    ghost ended = { λ _ _ _. Unit {0} };
+    ghost answers = { λ _. any_answers };
 
     fn length(&self, _file: u64) -> Result<Option<u64>, u64> {
         Ok(Some(self.length))

@@ -1,4 +1,5 @@
 //! How many workers read at once.
+ghost use Rattle.tor_source.specs.Answers.{any_answers};
 
 use crate::engine::shared::{allowed, comes_to, is_fault, is_told, plan_of};
 use std::process::Abort;
@@ -24,11 +25,7 @@ impl Source for Crowded {
 
     ghost is_steady = { λ _ _. ⊥ };
 
-    ghost gave = { λ _ _ _ _. Unit {0} };
-
-    ghost told = { λ _ _ _. Unit {0} };
-
-    ghost ended = { λ _ _ _. Unit {0} };
+    ghost answers = { λ _. any_answers };
 
     fn length(&self, _file: u64) -> Result<Option<u64>, u64> {
         Ok(Some(self.length))
@@ -114,11 +111,7 @@ impl Source for Meeting {
 
     ghost is_steady = { λ _ _. ⊥ };
 
-    ghost gave = { λ _ _ _ _. Unit {0} };
-
-    ghost told = { λ _ _ _. Unit {0} };
-
-    ghost ended = { λ _ _ _. Unit {0} };
+    ghost answers = { λ _. any_answers };
 
     fn length(&self, _file: u64) -> Result<Option<u64>, Alone> {
         Ok(Some(self.length))

@@ -25,12 +25,12 @@ returns-in-Err-clause-gave g c = inr (c.in-Err.ensures.gave _ c.files-test.true)
 
 pub files-preserved : goal.files-preserved
 files-preserved g c =
-    let told = g.S.Source.told c.args.source.now in
-    let one = subst (λ (n : ℕ). told n c.in-Ok.length) (sym c.files.invariant.counted) c.in-Ok.ensures.told in
+    let answers = g.S.Source.answers c.args.source.now in
+    let one = subst (λ (n : ℕ). answers.told n c.in-Ok.length) (sym c.files.invariant.counted) c.in-Ok.ensures.told in
     record {
       counted = rw c.in_ok-push-in-Ok.ensures.items (simp length-append (rw c.files.invariant.counted refl));
-      told = subst (λ (sizes : List (Option ℕ)). HasTold told sizes) (sym c.in_ok-push-in-Ok.ensures.items)
-          (each_more told c.files.told.items c.in-Ok.length None c.files.invariant.told one);
+      told = subst (λ (sizes : List (Option ℕ)). HasTold answers sizes) (sym c.in_ok-push-in-Ok.ensures.items)
+          (each_more answers.told c.files.told.items c.in-Ok.length None c.files.invariant.told one);
       steady = λ facts steady.
           let before = c.files.invariant.steady facts steady in
           let told = c.in-Ok.ensures.steady facts steady in (

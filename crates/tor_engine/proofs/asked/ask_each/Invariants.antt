@@ -8,7 +8,7 @@ use Rattle.tor_engine.proofs.asked.ask_each.Given as goal
 abbrev pub invariant-files : goal.invariant-files
 invariant-files g l = record {
   counted : length l.told.items ≡ l.file;
-  told : HasTold (g.S.Source.told l.source) l.told.items;
+  told : HasTold (g.S.Source.answers l.source) l.told.items;
   steady : (facts : SourceFacts g.row.S-Fault.Denot) → g.S.Source.is_steady l.source facts →
       (l.told.items ≡ lengths_told facts l.file) × (first_asked_fault facts l.file ≡ None);
 }

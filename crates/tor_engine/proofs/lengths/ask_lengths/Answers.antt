@@ -20,12 +20,12 @@ returns-in-Err-clause-steady g c = λ facts steady.
 
 pub files-preserved : goal.files-preserved
 files-preserved g c =
-    let told = g.S.Source.told c.args.source.now in
-    let one = subst (λ (n : ℕ). told n (Some c.in-Ok.length)) (sym c.files.invariant.counted) c.in-Ok.ensures.told in
+    let answers = g.S.Source.answers c.args.source.now in
+    let one = subst (λ (n : ℕ). answers.told n (Some c.in-Ok.length)) (sym c.files.invariant.counted) c.in-Ok.ensures.told in
     record {
       counted = rw c.in_ok-push-in-Ok.ensures.items (simp length-append (rw c.files.invariant.counted refl));
-      told = subst (λ (lengths : List ℕ). HasToldLengths told lengths) (sym c.in_ok-push-in-Ok.ensures.items)
-          (each_more (λ file size. told file (Some size)) c.files.lengths.items c.in-Ok.length 0
+      told = subst (λ (lengths : List ℕ). HasToldLengths answers lengths) (sym c.in_ok-push-in-Ok.ensures.items)
+          (each_more (λ file size. answers.told file (Some size)) c.files.lengths.items c.in-Ok.length 0
           c.files.invariant.told one);
       steady = λ facts steady.
           rw c.in_ok-push-in-Ok.ensures.items (told_more facts c.files.lengths.items c.files.file _

@@ -21,7 +21,7 @@ returns-in-Some-clause-gave g c =
 
 pub returns-clause-told : goal.returns-clause-told
 returns-clause-told g c =
-    subst (λ (lengths : List ℕ). HasToldLengths (g.S.Source.told c.args.source.now) lengths)
+    subst (λ (lengths : List ℕ). HasToldLengths (g.S.Source.answers c.args.source.now) lengths)
     (sym c.deref.ensures.value ∙ none_changed 0 c.deref.result.now c.args.planned.now
     (ap length c.deref.ensures.value ∙ c.in_ok-told.ensures.counted) (sym c.first_change.ensures ∙ c.in-None.is))
     c.in_ok-told.ensures.told

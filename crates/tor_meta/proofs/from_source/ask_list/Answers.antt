@@ -18,33 +18,27 @@ pub returns-in-Ok-with_lengths-clause-list : goal.returns-in-Ok-with_lengths-cla
 returns-in-Ok-with_lengths-clause-list g c = (
   c.deref.result.now,
   ap length c.deref.ensures.value ∙ c.in-Ok.ensures.counted ∙ ap length c.entries.ensures.value,
-  subst (λ (lengths : List ℕ). HasToldLengths (g.S.Source.told c.args.source.now) lengths) (sym c.deref.ensures.value)
+  subst (λ (lengths : List ℕ). HasToldLengths (g.S.Source.answers c.args.source.now) lengths) (sym c.deref.ensures.value)
       c.in-Ok.ensures.told,
   ap (λ list. list.files) c.in-Ok-with_lengths.ensures.files,
 )
 
 pub returns-in-Err-clause-gave : goal.returns-in-Err-clause-gave
 returns-in-Err-clause-gave g c =
-    let source = c.args.source.now in
-    let gave = g.S.Source.gave source in
-    let told = g.S.Source.told source in
-    let ended = g.S.Source.ended source in
-    let asked = subst (λ (n : ℕ). IsGivenAsked gave told n c.in-Err.error) (ap length c.entries.ensures.value)
+    let answers = g.S.Source.answers c.args.source.now in
+    let asked = subst (λ (n : ℕ). IsGivenAsked answers n c.in-Err.error) (ap length c.entries.ensures.value)
     c.in-Err.ensures.gave in
-    subst (λ error. IsGivenTo gave told ended (length c.args.paths) error) (sym c.from.ensures)
-    (given_of_asked gave told ended (length c.args.paths) c.in-Err.error asked)
+    subst (λ error. IsGivenTo answers (length c.args.paths) error) (sym c.from.ensures)
+    (given_of_asked answers (length c.args.paths) c.in-Err.error asked)
 
 pub returns-clause-gave : goal.returns-clause-gave
 returns-clause-gave g c =
-    let source = c.args.source.now in
-    let gave = g.S.Source.gave source in
-    let told = g.S.Source.told source in
-    let ended = g.S.Source.ended source in
+    let answers = g.S.Source.answers c.args.source.now in
     let lengths = c.deref.result.now in
     let counted = ap length c.deref.ensures.value ∙ c.in-Ok.ensures.counted ∙ ap length c.entries.ensures.value in
-    let are = subst (λ (lengths : List ℕ). HasToldLengths told lengths) (sym c.deref.ensures.value)
+    let are = subst (λ (lengths : List ℕ). HasToldLengths answers lengths) (sym c.deref.ensures.value)
     c.in-Ok.ensures.told in
-    subst (λ error. IsGivenTo gave told ended (length c.args.paths) error)
+    subst (λ error. IsGivenTo answers (length c.args.paths) error)
     (sym (c.from-in-Err-with_lengths-2.ensures ∙ ap of_contents_error c.from-in-Err-with_lengths.ensures))
-    (given_of_lengths gave told ended (length c.args.paths) lengths c.in-Err-with_lengths.fault counted are
+    (given_of_lengths answers (length c.args.paths) lengths c.in-Err-with_lengths.fault counted are
     c.in-Err-with_lengths.ensures.refused)

@@ -30,7 +30,7 @@ returns-clause-whole g c =
 pub returns-clause-told : goal.returns-clause-told
 returns-clause-told g c =
     subst (λ (files : Files). IfOk c.make_with.result
-    (λ bytes. IsMadeOfTold (g.S.Source.told c.args.source.now) (settings_of_order c.args.order.now) files bytes.items))
+    (λ bytes. IsMadeOfTold (g.S.Source.answers c.args.source.now) (settings_of_order c.args.order.now) files bytes.items))
     (c.deref.ensures.value ∙ c.in_ok-files.ensures) c.make_with.ensures.told
 
 pub returns-clause-info : goal.returns-clause-info
@@ -38,9 +38,7 @@ returns-clause-info g c = c.make_with.ensures.info
 
 pub returns-clause-gave : goal.returns-clause-gave
 returns-clause-gave g c =
-    let source = c.args.source.now in
-    subst (λ (n : ℕ). IfErr c.make_with.result
-    (IsGivenTo (g.S.Source.gave source) (g.S.Source.told source) (g.S.Source.ended source) n))
+    subst (λ (n : ℕ). IfErr c.make_with.result (IsGivenTo (g.S.Source.answers c.args.source.now) n))
     (ap length (c.deref.ensures.value ∙ c.in_ok-files.ensures) ∙ length-map c.args.paths.now _)
     c.make_with.ensures.gave
 

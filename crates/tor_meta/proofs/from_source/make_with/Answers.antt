@@ -22,8 +22,7 @@ use Rattle.tor_meta.proofs.from_source.make_with.Goals as goal
 
 pub returns-in-Err-clause-gave : goal.returns-in-Err-clause-gave
 returns-in-Err-clause-gave g c =
-    let source = c.args.source.now in
-    given_or_not (g.S.Source.gave source) (g.S.Source.told source) (g.S.Source.ended source) (length c.args.files.now)
+    given_or_not (g.S.Source.answers c.args.source.now) (length c.args.files.now)
     c.args.order.now (paths_of c.args.files.now) c.in-Err.error c.in-Err.ensures.refused
 
 pub torrent_of_listed-requires-clause-span : goal.torrent_of_listed-requires-clause-span
@@ -85,7 +84,7 @@ returns-in-Ok-torrent_of_listed-clause-told g c =
     c.in-Ok-torrent_of_listed.bytes.items c.in-Ok.ensures.indexed c.in-Ok.ensures.lawful list.3
     c.in-Ok-ask_lettered.ensures.letters whole.1
     (whole.2 ∙ ap (λ settings. metainfo settings (files_of c.in-Ok-ask_lettered.both.0 whole.0)) c.in_ok-head.ensures)
-    (g.S.Source.told c.args.source.now) list.1 list.2
+    (g.S.Source.answers c.args.source.now) list.1 list.2
 
 pub returns-clause-fault : goal.returns-clause-fault
 returns-clause-fault g c = λ facts steady.
@@ -108,16 +107,12 @@ returns-in-Err-ask_lettered-clause-only g c = c.in-Err-ask_lettered.ensures.only
 
 pub returns-in-Err-ask_lettered-clause-gave : goal.returns-in-Err-ask_lettered-clause-gave
 returns-in-Err-ask_lettered-clause-gave g c =
-    let source = c.args.source.now in
-    subst (λ (n : ℕ).
-    IsGivenTo (g.S.Source.gave source) (g.S.Source.told source) (g.S.Source.ended source) n c.in-Err-ask_lettered.error)
+    subst (λ (n : ℕ). IsGivenTo (g.S.Source.answers c.args.source.now) n c.in-Err-ask_lettered.error)
     (c.in-Ok.ensures.indexed.one_each ∙ length-map c.args.files.now (λ file. file.0)) c.in-Err-ask_lettered.ensures.gave
 
 pub returns-clause-gave : goal.returns-clause-gave
 returns-clause-gave g c =
-    let gave = g.S.Source.gave c.args.source.now in
-    let told = g.S.Source.told c.args.source.now in
-    let ended = g.S.Source.ended c.args.source.now in
+    let answers = g.S.Source.answers c.args.source.now in
     let count = length c.args.files.now in
     let indices = c.deref.result.now in
     let paths = c.in-Ok.paths in
@@ -135,12 +130,12 @@ returns-clause-gave g c =
     ∙ sym (length-map paths (λ entry. entry.1)) ∙ sym (ap length are_indices) in
     let entries = entries_within (length lengths) paths indexed.indices (sym asked.list.1) in
     let first : (file : ℕ) → file < length indices
-    → told (get_or indices file 0) (Some (get_or (lengths_of list) file 0))
+    → answers.told (get_or indices file 0) (Some (get_or (lengths_of list) file 0))
     =
-    rw (are_indices, asked.list.3) (told_of_listed told lengths paths entries asked.list.2) in
+    rw (are_indices, asked.list.3) (told_of_listed answers lengths paths entries asked.list.2) in
     let same = c.from.ensures ∙ ap of_engine_error (c.renumbered.ensures
     ∙ ap (λ indices. renumbered indices c.in-Err-torrent_of_listed.error)
     (c.deref-in-Err-torrent_of_listed.ensures.value ∙ sym c.deref.ensures.value)) in
-    subst (λ error. IsGivenTo gave told ended count error) (sym same)
-    (given_of_indexed gave told ended count indices (lengths_of list) within one_each first
+    subst (λ error. IsGivenTo answers count error) (sym same)
+    (given_of_indexed answers count indices (lengths_of list) within one_each first
     c.in-Err-torrent_of_listed.error c.in-Err-torrent_of_listed.ensures.gave)

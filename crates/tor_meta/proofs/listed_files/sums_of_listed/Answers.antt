@@ -42,7 +42,5 @@ returns-clause-steady g c = λ facts steady none.
 
 pub returns-in-Err-clause-gave : goal.returns-in-Err-clause-gave
 returns-in-Err-clause-gave g c =
-    let source = c.args.source.now in
-    subst (λ (lengths : List ℕ).
-    IsGivenNotMissing (g.S.Source.gave source) (g.S.Source.told source) (g.S.Source.ended source) lengths
-    c.in-Err.error) c.in_ok-plan.ensures.is.lengths c.in-Err.ensures.gave
+    subst (λ (lengths : List ℕ). IsGivenNotMissing (g.S.Source.answers c.args.source.now) lengths c.in-Err.error)
+    c.in_ok-plan.ensures.is.lengths c.in-Err.ensures.gave

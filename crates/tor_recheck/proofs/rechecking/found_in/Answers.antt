@@ -62,9 +62,7 @@ returns-clause-gave g c =
     let view = c.args.torrent.now in
     let cut = c.in_ok-plan.ensures.cut in
     let count = count_of_plan view cut c.in_ok-plan.ensures.planned in
-    let gave = g.S.Source.gave c.args.source.now in
-    let told = g.S.Source.told c.args.source.now in
-    let ended = g.S.Source.ended c.args.source.now in
-    subst (λ error. IsGiven gave told ended (length view.files) error) (sym c.into.ensures)
-    (given_of gave told ended (length view.files) c.in-Err.error
-    (subst (λ (n : ℕ). IsGivenPieces gave told ended n c.in-Err.error) count c.in-Err.ensures.gave))
+    let answers = g.S.Source.answers c.args.source.now in
+    subst (λ error. IsGiven answers (length view.files) error) (sym c.into.ensures)
+    (given_of answers (length view.files) c.in-Err.error
+    (subst (λ (n : ℕ). IsGivenPieces answers n c.in-Err.error) count c.in-Err.ensures.gave))

@@ -40,7 +40,7 @@ returns-clause-told g c =
     c.in-Ok.ensures.counted.1 ∙ sym (spans_are_counted view c.in-Ok.ensures.cut) in
     let told = ap (map (λ (file : FileFound). file.there)) c.in_ok-files.ensures.found
     ∙ lengths_kept view lengths (all_held view c.in-Ok.found.hashes.items) count in
-    subst (λ (sizes : List (Option ℕ)). HasTold (g.S.Source.told c.args.source.now) sizes) (sym told)
+    subst (λ (sizes : List (Option ℕ)). HasTold (g.S.Source.answers c.args.source.now) sizes) (sym told)
     c.in-Ok.ensures.told
 
 pub returns-clause-there : goal.returns-clause-there

@@ -102,5 +102,5 @@ returns-in-Err g c =
       read = λ facts is_steady some. ap of_read (c.in-Err.ensures.steady facts is_steady);
       ends = λ facts is_steady none. inr (ap of_read (c.in-Err.ensures.steady facts is_steady));
       there = tt;
-      gave = λ lengths named within. (c.in-Err.ensures.gave, within, named);
+      gave = λ lengths named within. ((c.in-Err.ensures.gave, within), named);
     }

@@ -2,7 +2,7 @@
 use Rattle.std.proofs.Common.{ℕ, length, subst}
 use Rattle.tor_recheck.specs.Recheck.{IsGiven}
 use Rattle.tor_recheck.specs.declared.errors.RecheckError.TheVariants.{Workers}
-use Rattle.tor_cli.specs.Place.{IsFileEnd, IsFileFault, IsFileSize}
+use Rattle.tor_source.specs.Answers.{system_answers}
 use Rattle.tor_cli.specs.Status.{of_recheck_error}
 use Rattle.tor_cli.proofs.CheckAfter.{as_made, not_as_made, not_kept}
 use Rattle.tor_cli.proofs.Rechecking.{err_is, not_rechecked, places_count}
@@ -30,6 +30,6 @@ returns-clause-stopped g c =
     rw c.from.ensures
     (not_kept workers bytes (of_recheck_error error)
     (not_rechecked bytes view c.in-Ok.ensures.told workers error
-    (subst (λ (n : ℕ). IsGiven (IsFileFault n) (IsFileSize n) IsFileEnd (length view.files) error) count why.gave)
+    (subst (λ (n : ℕ). IsGiven (system_answers n) (length view.files) error) count why.gave)
     why.allowed
     (λ none. err_is error Workers _ c.in-Err-counted_pieces.is (c.counted_pieces.ensures.refused none))))

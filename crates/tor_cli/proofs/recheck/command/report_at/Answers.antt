@@ -2,7 +2,7 @@
 use Rattle.std.proofs.Common.{ℕ, length, subst}
 use Rattle.tor_recheck.specs.Recheck.{IsGiven}
 use Rattle.tor_recheck.specs.declared.errors.RecheckError.TheVariants.{Workers}
-use Rattle.tor_cli.specs.Place.{IsFileEnd, IsFileFault, IsFileSize}
+use Rattle.tor_source.specs.Answers.{system_answers}
 use Rattle.tor_cli.proofs.Rechecking.{err_is, not_rechecked, places_count, unplaced}
 use Rattle.tor_cli.proofs.recheck.command.report_at.Goals as goal
 
@@ -18,7 +18,7 @@ returns-clause-stopped g c =
     let count = places_count c.args.options.now.place.now view source c.in-Ok.ensures.placed in
     rw c.from.ensures
     (not_rechecked c.args.bytes.now view c.in-Ok.ensures.told c.args.options.now.workers error
-    (subst (λ (n : ℕ). IsGiven (IsFileFault n) (IsFileSize n) IsFileEnd (length view.files) error) count
+    (subst (λ (n : ℕ). IsGiven (system_answers n) (length view.files) error) count
     c.in-Err-counted_report.ensures.gave)
     c.in-Err-counted_report.ensures.allowed
     (λ none. err_is error Workers _ c.in-Err-counted_report.is (c.counted_report.ensures.refused none)))
