@@ -1,21 +1,17 @@
 -- The first position that fails, in the order of the units and in that of the files.
-use Rattle.std.proofs.Common.{◌≡◌, ℕ, ◌+◌, ◌*◌, ◌<◌, false, List, [], ◌∷◌, map, Option, refl, ap, ap₂, sym, ◌∙◌}
+use Rattle.std.proofs.Common.{◌≡◌, ℕ, ◌+◌, ◌*◌, ◌<◌, List, [], ◌∷◌, map, Option, refl, ap, ap₂, sym, ◌∙◌}
 use Rattle.std.specs.List.{enumerate_from, flat_map, range_with_len}
 use Rattle.std.specs.Option.{option_or}
 use Rattle.tor_sums.specs.Fault.{byte_fault, file_fault, first_byte_fault, first_of, part_fault, unit_fault}
 use Rattle.tor_sums.specs.Fault.{units_fault}
 use Rattle.tor_sums.specs.declared.errors.EngineError.{EngineError}
-use Rattle.tor_plan.specs.Content.{layout_of_kind}
 use Rattle.tor_plan.specs.Entries.{entry_units, lengths_of_entries}
 use Rattle.tor_plan.specs.Positions.{positions, positions_of_files, positions_of_part, positions_of_unit}
-use Rattle.tor_plan.specs.Units.{hash_units}
 use Rattle.tor_plan.specs.declared.units.PlanUnit.{PlanUnit}
-use Rattle.tor_plan.proofs.ProvedLaws.{entry_units_name_each_byte, entry_units_of_files, lengths_of_files}
+use Rattle.tor_plan.proofs.ProvedLaws.{entry_units_name_each_byte}
 use Rattle.tor_source.specs.Source.{SourceFacts}
-use Rattle.tor_tree.specs.FileList.{lengths_of}
 use Rattle.tor_tree.specs.declared.kinds.Kind.{Kind}
 use Rattle.tor_sums.proofs.FirstOf.{first_append}
-use Rattle.tor_v1.specs.Entries.{v1_entries}
 use Rattle.tor_v1.specs.declared.entry.Entry.{Entry}
 
 -- the first of lists that stand one after the other
@@ -60,10 +56,3 @@ module _ {F : Type 0} (facts : SourceFacts F) where
       sym (first_flat found positions_of_unit (unit_fault facts) (entry_units kind p span entries) in_unit)
       ∙ ap (first_of found) (entry_units_name_each_byte kind p span entries pos)
       ∙ in_files 0 (lengths_of_entries entries)
-
-  pub fault_of_units : (kind : Kind) (p span : ℕ) (files : List (List (List ℕ) × ℕ)) → 0 < span * p
-      → units_fault facts (hash_units kind p span files) ≡ first_byte_fault facts (lengths_of files)
-  fault_of_units kind p span files pos =
-      ap (units_fault facts) (entry_units_of_files kind p span files)
-      ∙ fault_of_entries kind p span (v1_entries (layout_of_kind kind false) p files) pos
-      ∙ ap (first_byte_fault facts) (lengths_of_files (layout_of_kind kind false) p files)

@@ -2,14 +2,14 @@
 ghost use Rattle.std.specs.Prelude.{◌≡◌, ◌<◌, ◌*◌, ℕ, List, length, map, true};
 ghost use Rattle.std.specs.List.{flat_map, range_with_len};
 ghost use Rattle.tor_sums.specs.Fault.{first_byte_fault, units_fault};
+ghost use Rattle.tor_plan.specs.Entries.{entry_units, lengths_of_entries};
 ghost use Rattle.tor_plan.specs.PlanFacts.{IsPlan, PlanFacts};
-ghost use Rattle.tor_plan.specs.Units.{hash_units};
 ghost use Rattle.tor_plan.specs.declared.units.PlanUnit.{PlanUnit};
 ghost use Rattle.tor_source.specs.Source.{SourceFacts};
-ghost use Rattle.tor_tree.specs.FileList.{lengths_of};
 ghost use Rattle.tor_tree.specs.Kinds.{has_v1, has_v2};
 ghost use Rattle.tor_tree.specs.declared.kinds.Kind.{Kind};
 ghost use Rattle.tor_v1.specs.Piece.{piece_sums};
+ghost use Rattle.tor_v1.specs.declared.entry.Entry.{Entry};
 ghost use Rattle.tor_engine.specs.Rows.{AreSameAt, IsRowOf, hashes_of_file, row_of_units, sums_of_pieces};
 ghost use Rattle.tor_engine.specs.Rows.{units_between};
 ghost use Rattle.tor_sums.specs.Sums.{plan_content};
@@ -19,9 +19,9 @@ pub use tor_sums::laws::{limit_of_workers, limits_of_buffers};
 
 /// The first byte that fails in the order of the units is the first in the order of the files, however they are cut.
 pub fn first_fault_of_units<F>()
-    ensures { (facts : SourceFacts F) (kind : Kind) (piece_length span : ℕ)
-        (files : List (List (List ℕ) × ℕ)) → 0 < span * piece_length →
-        units_fault facts (hash_units kind piece_length span files) ≡ first_byte_fault facts (lengths_of files) }
+    ensures { (facts : SourceFacts F) (kind : Kind) (piece_length span : ℕ) (entries : List Entry) →
+        0 < span * piece_length → units_fault facts (entry_units kind piece_length span entries)
+        ≡ first_byte_fault facts (lengths_of_entries entries) }
 {}
 
 /// The hashes of the pieces of all units of a plan, one after another, are those of the pieces of its files.

@@ -1,5 +1,4 @@
--- The plan of a list of files is that of its entries, which are not too long; the plan of all bytes of entries is
--- theirs.
+-- The entries of a list of files are not too long for a plan; the plan of all bytes of entries is theirs.
 use Rattle.tor_plan.proofs.Names.{◌≡◌, ℕ, ◌<◌, ◌≤◌, Bool, true, false, ltb, ◌&&◌, ◌||◌, List, [], ◌∷◌, ◌++◌, map}
 use Rattle.tor_plan.proofs.Names.{sum_by}
 use Rattle.tor_plan.proofs.Names.{arith, ap, ap₂, ◌∙◌, ◌*◌, sym, subst, IsTrue, All-map, sum_by-append, sum_by-cons}
@@ -7,10 +6,10 @@ use Rattle.tor_plan.proofs.Names.{sum_by-le-sum_by, is_power_of_two, next_multip
 use Rattle.tor_plan.proofs.Names.{Kind, V1, Hybrid, MAX_LENGTH, MAX_TOTAL, ROUNDING, files_are_small, Entry, file_entry}
 use Rattle.tor_plan.proofs.Names.{padding_length, has_bytes, aligned_entries, v1_entries, layout_of_kind}
 use Rattle.tor_plan.proofs.Names.{entries_length, entry_units, lengths_of_entries, IsEntryList, IsLaidOut, forest_trees}
-use Rattle.tor_plan.proofs.Names.{plan_of, plan_of_entries, IsPlan, IsPlanPieceLength, IsSpan, PlanFacts, PlanUnit}
+use Rattle.tor_plan.proofs.Names.{plan_of_entries, IsPlan, IsPlanPieceLength, IsSpan, PlanFacts, PlanUnit}
 use Rattle.tor_plan.proofs.Names.{plan_of_whole, whole_unit, whole_units, AreWhole}
 use Rattle.tor_plan.proofs.Contents.{File}
-use Rattle.tor_plan.proofs.FilesAsEntries.{entry_length, padded, entry_units_of_files, length_of_files}
+use Rattle.tor_plan.proofs.FilesAsEntries.{entry_length, padded, length_of_files}
 use Rattle.tor_plan.proofs.FilesAsEntries.{lengths_of_files, files_laid_out}
 use Rattle.tor_plan.proofs.Sizes.{rounded, some_bytes, total_small, v1_piece}
 use Rattle.tor_plan.proofs.WholeLaws.{files_are_pieces}
@@ -66,16 +65,6 @@ files_are_list kind tail p files lawful pieces = record {
       (All-map (λ m. m ≤ MAX_LENGTH) (λ (file : File). file.1) files (files_are_small files lawful));
   laid_out = files_laid_out kind tail p files;
 }
-
-pub same_plan : (kind : Kind) (p span : ℕ) (files : List File)
-    → plan_of kind p span files ≡ plan_of_entries kind p span (v1_entries (layout_of_kind kind false) p files)
-same_plan kind p span files = ap₂ (λ units lengths. record {
-  kind = kind;
-  piece_length = p;
-  units = units;
-  lengths = lengths;
-  trees = forest_trees kind (span * p) lengths;
-}) (entry_units_of_files kind p span files) (sym (lengths_of_files (layout_of_kind kind false) p files))
 
 -- ---- the plan of all bytes
 

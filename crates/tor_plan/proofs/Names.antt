@@ -31,9 +31,9 @@ pub use Rattle.std.specs.Option.{option_or}
 pub use Rattle.tor_merkle.proofs.ProvedLaws.{height_least}
 pub use Rattle.tor_merkle.specs.Subtree.{height}
 pub use Rattle.tor_merkle.specs.declared.TheConstants.{MAX_LENGTH}
-pub use Rattle.tor_plan.specs.Content.{AreContentsOfFiles, cut_content, layout_of_kind, part_content, unit_content}
+pub use Rattle.tor_plan.specs.Content.{layout_of_kind, part_content, unit_content}
 pub use Rattle.tor_plan.specs.Entries.{after_part, after_zeros, empty_unit, entries_length, entry_units}
-pub use Rattle.tor_plan.specs.Entries.{joined_entry_unit, lengths_of_entries, shared}
+pub use Rattle.tor_plan.specs.Entries.{file_unit, joined_entry_unit, lengths_of_entries, shared, units_of_file}
 unfoldable pub use Rattle.tor_plan.specs.Entries.{joined_entry_units, padding_before_next, separate_entry_units}
 unfoldable pub use Rattle.tor_plan.specs.Entries.{unit_within}
 pub use Rattle.tor_plan.specs.EntryList.{IsEntryList, IsPaddedTo, has_padding, is_filled}
@@ -42,12 +42,10 @@ pub use Rattle.tor_plan.specs.Forest.{forest_trees, unit_level}
 unfoldable pub use Rattle.tor_plan.specs.Forest.{AreRuns, log2, trees_from}
 pub use Rattle.tor_plan.specs.Pieces.{piece_of_unit, unit_between}
 unfoldable pub use Rattle.tor_plan.specs.Pieces.{parts_between, pieces_of_unit}
-pub use Rattle.tor_plan.specs.PlanFacts.{IsPlan, IsPlanPieceLength, IsSpan, PlanFacts, plan_of, plan_of_entries}
+pub use Rattle.tor_plan.specs.PlanFacts.{IsPlan, IsPlanPieceLength, IsSpan, PlanFacts, plan_of_entries}
 pub use Rattle.tor_plan.specs.Positions.{positions, positions_of_unit}
 unfoldable pub use Rattle.tor_plan.specs.Positions.{positions_of_files}
 pub use Rattle.tor_plan.specs.Present.{is_there}
-pub use Rattle.tor_plan.specs.Units.{file_unit, hash_units, joined_unit, units_of_file, zeros_after}
-unfoldable pub use Rattle.tor_plan.specs.Units.{joined_units, parts_within, separate_units}
 pub use Rattle.tor_plan.specs.WithinEntries.{IsInFile, IsUnitWithin, unit_length}
 pub use Rattle.tor_plan.specs.WithinFiles.{IsFileUnit}
 pub use Rattle.tor_plan.specs.declared.forests.Run.{Run}

@@ -1,11 +1,11 @@
 -- The proofs of the laws of src/laws.rt.
-use Rattle.tor_plan.proofs.Names.{◌≡◌, ◌≢◌, ℕ, ◌+◌, ◌-◌, ◌*◌, ◌<◌, false, min, List, length, get_or, refl, arith, ap}
+use Rattle.tor_plan.proofs.Names.{◌≡◌, ◌≢◌, ℕ, ◌+◌, ◌-◌, ◌*◌, ◌<◌, min, List, length, get_or, refl, arith, ap}
 use Rattle.tor_plan.proofs.Names.{◌∙◌}
 use Rattle.tor_plan.proofs.Names.{sym, subst, map, inl, inr, append-nil, eq-zero-or-pos, mul-pos, All, flat_map, Kind}
 use Rattle.tor_plan.proofs.Names.{V1}
-use Rattle.tor_plan.proofs.Names.{V2, Hybrid, AreContentsOf, joined_content, v1_entries, piece_sums, Entry}
-use Rattle.tor_plan.proofs.Names.{AreContentsOfFiles, cut_content, layout_of_kind, unit_content, entry_units}
-use Rattle.tor_plan.proofs.Names.{lengths_of_entries, IsLaidOut, piece_of_unit, pieces_of_unit, hash_units, IsInFile}
+use Rattle.tor_plan.proofs.Names.{V2, Hybrid, AreContentsOf, joined_content, piece_sums, Entry}
+use Rattle.tor_plan.proofs.Names.{unit_content, entry_units}
+use Rattle.tor_plan.proofs.Names.{lengths_of_entries, IsLaidOut, piece_of_unit, pieces_of_unit, IsInFile}
 use Rattle.tor_plan.proofs.Names.{IsUnitWithin, unit_length, IsFileUnit, PlanUnit, whole_unit}
 use Rattle.tor_plan.proofs.PieceWithin.{unit_between_length}
 use Rattle.tor_plan.proofs.UnitLaws.{content_of_pieces, each_unit, pieces_of_pieces, sums_of_pieces, whole_piece}
@@ -13,8 +13,7 @@ use Rattle.tor_plan.proofs.UnitLaws.{within_units}
 use Rattle.tor_plan.proofs.WholeLaws.{content_of_roots, content_of_whole, in_files, no_zeros_first, roots, roots_in}
 use Rattle.tor_plan.proofs.WholeLaws.{separate_whole, units_are_pieces}
 use Rattle.tor_plan.proofs.WholeUnits.{parts_of_whole, pieces_of_whole, zeros_of_whole}
-pub use Rattle.tor_plan.proofs.FilesAsEntries.{entry_units_of_files, lengths_of_files}
-pub use Rattle.tor_plan.proofs.FilesAsEntries.{files_laid_out}
+pub use Rattle.tor_plan.proofs.FilesAsEntries.{files_laid_out, lengths_of_files}
 pub use Rattle.tor_plan.proofs.Trees.{trees_are_runs, units_are_few}
 pub use Rattle.tor_plan.proofs.PieceWithin.{pieces_are_within_files}
 pub use Rattle.tor_plan.proofs.Positions.{entry_units_name_each_byte}
@@ -140,16 +139,3 @@ pieces_are_in_entry_units Hybrid piece_length span entries contents not_v2 some 
     ∙ ap (flat_map (λ unit. piece_sums piece_length (unit_content contents unit)))
     (aligned_pieces_are_joined piece_length entries some laid)
     ∙ sums_of_joined piece_length 1 entries contents one tt fit
-
--- ---- files of a list: their units are those of their entries
-
-pub units_are_the_content : (kind : Kind) (piece_length span : ℕ) (files : List (List (List ℕ) × ℕ))
-    (contents : List (List ℕ)) → 0 < span * piece_length → AreContentsOfFiles files contents
-    → flat_map (unit_content contents) (hash_units kind piece_length span files)
-    ≡ cut_content kind false piece_length files contents
-units_are_the_content kind piece_length span files contents pos fit =
-    ap (flat_map (unit_content contents)) (entry_units_of_files kind piece_length span files)
-    ∙ entry_units_are_the_content kind piece_length span (v1_entries (layout_of_kind kind false) piece_length files)
-    contents
-    pos (files_laid_out kind false piece_length files)
-    (fit ∙ sym (lengths_of_files (layout_of_kind kind false) piece_length files))

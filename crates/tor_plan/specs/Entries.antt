@@ -1,6 +1,6 @@
 -- How the entries of a torrent, files and padding (BEP 47, "padding files"), are cut into units of work. A file is
 -- named by its index among the entries that are no padding.
-use Rattle.std.specs.Prelude.{ℕ, ◌+◌, ◌-◌, ◌*◌, min, max, nat_lt, List, [], ◌∷◌, ◌++◌, map, sum_by}
+use Rattle.std.specs.Prelude.{ℕ, ◌+◌, ◌-◌, ◌*◌, min, max, nat_lt, nat_le, List, [], ◌∷◌, ◌++◌, map, sum_by}
 use Rattle.std.specs.Prelude.{if◌then◌else◌}
 use Rattle.std.specs.Int.{div_ceil}
 use Rattle.std.specs.List.{range_with_len}
@@ -9,7 +9,6 @@ use Rattle.tor_tree.specs.declared.kinds.Kind.TheVariants.{V1}
 use Rattle.tor_v1.specs.Content.{file_entries}
 use Rattle.tor_v1.specs.declared.entry.Entry.{Entry}
 use Rattle.tor_plan.specs.declared.units.PlanUnit.{PlanUnit}
-use Rattle.tor_plan.specs.Units.{units_of_file}
 
 -- the bytes of all entries
 abbrev pub entries_length : List Entry → ℕ
@@ -63,6 +62,22 @@ joined_entry_units size entries =
 
 -- ---- files cut each by itself
 
+-- the k-th unit of a file of m bytes that is cut every size bytes; the one with the file's end has the zeros after it
+abbrev pub file_unit : ℕ → ℕ → ℕ → ℕ → ℕ → PlanUnit
+file_unit size file m zeros k = record {
+  zeros = 0;
+  parts = record {
+    file = file;
+    start = k * size;
+    length = min (m - k * size) size;
+    zeros = if nat_le (m - k * size) size then zeros else 0;
+  } ∷ [];
+}
+
+-- a file cut every size bytes; no unit of an empty one
+abbrev pub units_of_file : ℕ → ℕ → ℕ → ℕ → List PlanUnit
+units_of_file size file m zeros = map (file_unit size file m zeros) (range_with_len 0 (div_ceil m size))
+
 -- the padding before the next file that is not empty, or before the end
 unfoldable pub padding_before_next : List Entry → ℕ
 padding_before_next [] = 0
@@ -81,7 +96,7 @@ separate_entry_units size index (entry ∷ entries) =
 
 -- a torrent's entries cut every span pieces: in version 1 joined, else file by file. Padding is zeros: in version 1 it
 -- may stand before the first part of a unit too, else it stands in the last unit of the file before it, up to the next
--- file that is not empty (BEP 3, "info dictionary"; BEP 47, "padding files")
+-- file that is not empty (BEP 3, "info dictionary"; BEP 52, "pieces root"; BEP 47, "padding files")
 abbrev pub entry_units : Kind → ℕ → ℕ → List Entry → List PlanUnit
 entry_units V1 piece_length span entries = joined_entry_units (span * piece_length) entries
 entry_units kind piece_length span entries = separate_entry_units (span * piece_length) 0 entries

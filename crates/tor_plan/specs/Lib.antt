@@ -1,4 +1,3 @@
-pub mod Units
 pub mod Forest
 pub mod PlanFacts
 pub mod Content

@@ -1,7 +1,6 @@
 -- What a plan tells.
 use Rattle.std.specs.Prelude.{◌≡◌, ℕ, ◌*◌, ◌≤◌, IsTrue, List}
 use Rattle.std.specs.Int.{is_power_of_two}
-use Rattle.tor_tree.specs.FileList.{lengths_of}
 use Rattle.tor_tree.specs.declared.kinds.Kind.{Kind}
 use Rattle.tor_tree.specs.declared.kinds.Kind.TheVariants.{V1}
 use Rattle.tor_v1.specs.Piece.{IsV1PieceLength, max_piece_length}
@@ -11,7 +10,6 @@ use Rattle.tor_v1.specs.declared.entry.Entry.{Entry}
 use Rattle.tor_plan.specs.Entries.{entry_units, lengths_of_entries}
 use Rattle.tor_plan.specs.EntryList.{IsEntryList}
 use Rattle.tor_plan.specs.Forest.{forest_trees}
-use Rattle.tor_plan.specs.Units.{hash_units}
 use Rattle.tor_merkle.specs.declared.TheConstants.{BLOCK_LENGTH}
 
 -- the piece lengths that a plan takes: with trees powers of two. They are those of torrents of a kind, at most 2^30,
@@ -31,16 +29,6 @@ pub record PlanFacts : Type 0 where
   pub units : List PlanUnit
   pub lengths : List ℕ
   pub trees : List Run
-
--- what the plan of a list of files tells (profile)
-abbrev pub plan_of : Kind → ℕ → ℕ → List (List (List ℕ) × ℕ) → PlanFacts
-plan_of kind piece_length span files = record {
-  kind = kind;
-  piece_length = piece_length;
-  units = hash_units kind piece_length span files;
-  lengths = lengths_of files;
-  trees = forest_trees kind (span * piece_length) (lengths_of files);
-}
 
 -- what the plan of the entries of a torrent tells (profile)
 abbrev pub plan_of_entries : Kind → ℕ → ℕ → List Entry → PlanFacts

@@ -1,15 +1,14 @@
 //! Laws over the definitions, as contracts of functions that do nothing.
-ghost use Rattle.std.specs.Prelude.{◌≡◌, ◌≢◌, ℕ, ◌+◌, ◌-◌, ◌*◌, ◌^◌, ◌<◌, ◌≤◌, Bool, false, min, All, List, length};
+ghost use Rattle.std.specs.Prelude.{◌≡◌, ◌≢◌, ℕ, ◌+◌, ◌-◌, ◌*◌, ◌^◌, ◌<◌, ◌≤◌, Bool, min, All, List, length};
 ghost use Rattle.std.specs.Prelude.{slice_index_or};
 ghost use Rattle.std.specs.List.{flat_map};
-ghost use Rattle.tor_plan.specs.Content.{AreContentsOfFiles, cut_content, layout_of_kind, unit_content};
+ghost use Rattle.tor_plan.specs.Content.{layout_of_kind, unit_content};
 ghost use Rattle.tor_plan.specs.Entries.{entry_units, lengths_of_entries};
 ghost use Rattle.tor_plan.specs.EntryList.{IsEntryList, IsLaidOut};
 ghost use Rattle.tor_plan.specs.Forest.{AreRuns};
 ghost use Rattle.tor_plan.specs.PlanFacts.{IsPlan, IsPlanPieceLength, PlanFacts};
 ghost use Rattle.tor_plan.specs.Pieces.{piece_of_unit, pieces_of_unit};
 ghost use Rattle.tor_plan.specs.Positions.{positions_of_files, positions_of_unit};
-ghost use Rattle.tor_plan.specs.Units.{hash_units};
 ghost use Rattle.tor_plan.specs.WithinEntries.{IsInFile, IsUnitWithin, unit_length};
 ghost use Rattle.tor_plan.specs.WithinFiles.{IsFileUnit};
 ghost use Rattle.tor_plan.specs.declared.units.PlanUnit.{PlanUnit};
@@ -21,20 +20,9 @@ ghost use Rattle.tor_v1.specs.Entries.{v1_entries};
 ghost use Rattle.tor_v1.specs.Piece.{piece_sums};
 ghost use Rattle.tor_v1.specs.declared.entry.Entry.{Entry};
 
-/// The units have each byte of each file once, in order, and in a hybrid torrent the padding: together they are the
-/// content of the files' entries.
-pub fn units_are_the_content()
-    ensures { (kind : Kind) (piece_length span : ℕ) (files : List (List (List ℕ) × ℕ)) (contents : List (List ℕ)) →
-        0 < span * piece_length → AreContentsOfFiles files contents →
-        flat_map (unit_content contents) (hash_units kind piece_length span files)
-        ≡ cut_content kind false piece_length files contents }
-{}
-
-/// The files of a list are cut as their entries are. Those may have a tail, and a plan can be made of them.
+/// The files of a list are cut as their entries are. Those have the lengths of the files and may have a tail, and a plan
+/// can be made of them.
 pub fn files_are_cut_as_entries()
-    ensures units { (kind : Kind) (piece_length span : ℕ) (files : List (List (List ℕ) × ℕ)) →
-        hash_units kind piece_length span files
-        ≡ entry_units kind piece_length span (v1_entries (layout_of_kind kind false) piece_length files) }
     ensures lengths { (kind : Kind) (tail : Bool) (piece_length : ℕ) (files : List (List (List ℕ) × ℕ)) →
         lengths_of_entries (v1_entries (layout_of_kind kind tail) piece_length files) ≡ lengths_of files }
     ensures laid_out { (kind : Kind) (tail : Bool) (piece_length : ℕ) (files : List (List (List ℕ) × ℕ)) →

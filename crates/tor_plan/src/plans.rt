@@ -2,6 +2,7 @@
 ghost use Rattle.std.specs.Prelude.{◌≡◌, false, IfOk, map};
 ghost use Rattle.tor_plan.specs.Content.{layout_of_kind};
 ghost use Rattle.tor_plan.specs.Entries.{lengths_of_entries};
+ghost use Rattle.tor_v1.specs.Entries.{v1_entries};
 
 use crate::forests::{Forest, trees_of};
 use crate::separate::cut_each;
@@ -46,10 +47,11 @@ impl Model for Plan {
 
 impl Plan {
     ghost use Rattle.tor_plan.specs.EntryList.{IsEntryList};
-    ghost use Rattle.tor_plan.specs.PlanFacts.{plan_of, plan_of_entries, IsPlan, IsPlanPieceLength, IsSpan};
+    ghost use Rattle.tor_plan.specs.PlanFacts.{plan_of_entries, IsPlan, IsPlanPieceLength, IsSpan};
     ghost use Rattle.tor_plan.specs.steps.Whole.{plan_of_whole, AreWhole};
 
-    /// The plan whose units have `span` pieces, fewer at an end: of one file each, or of the joined files in V1.
+    /// The plan of the entries of a list of files, padding among them in a hybrid torrent. Its units have `span` pieces,
+    /// fewer at an end: of one file each, or of the joined files in V1.
     pub fn new(
         alloc: Global,
         list: &FileList,
@@ -59,7 +61,8 @@ impl Plan {
     ) -> Result<Plan, AllocError>
         requires pieces { IsPlanPieceLength kind piece_length }
         requires span { IsSpan span }
-        ensures { IfOk result (λ plan. plan ≡ plan_of kind piece_length span list.now.files) }
+        ensures { IfOk result (λ plan. plan ≡ plan_of_entries kind piece_length span
+            (v1_entries (layout_of_kind kind false) piece_length list.now.files)) }
     {
         let files = list.files();
         let entries = entries_without_letters(alloc, files, piece_length, layout_of_kind(kind))?;

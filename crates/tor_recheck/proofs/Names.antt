@@ -62,14 +62,13 @@ pub use Rattle.tor_merkle.specs.declared.TheConstants.{MAX_LENGTH}
 pub use Rattle.tor_plan.proofs.ProvedLaws.{aligned_pieces_are_joined, units_are_cut_into_pieces}
 pub use Rattle.tor_plan.specs.Content.{part_content, unit_content}
 pub use Rattle.tor_plan.specs.Entries.{after_part, after_zeros, empty_unit, entries_length, entry_units}
-pub use Rattle.tor_plan.specs.Entries.{joined_entry_unit, lengths_of_entries, shared}
+pub use Rattle.tor_plan.specs.Entries.{file_unit, joined_entry_unit, lengths_of_entries, shared, units_of_file}
 unfoldable pub use Rattle.tor_plan.specs.Entries.{joined_entry_units, padding_before_next, separate_entry_units}
 unfoldable pub use Rattle.tor_plan.specs.Entries.{unit_within}
 pub use Rattle.tor_plan.specs.EntryList.{IsEntryList, IsPaddedTo, has_padding}
 unfoldable pub use Rattle.tor_plan.specs.EntryList.{ArePadded, IsLaidOut}
 pub use Rattle.tor_plan.specs.PlanFacts.{IsPlanPieceLength, PlanFacts, plan_of_entries}
 pub use Rattle.tor_plan.specs.Present.{is_part_there, is_there}
-pub use Rattle.tor_plan.specs.Units.{file_unit, units_of_file}
 pub use Rattle.tor_plan.specs.declared.units.Part.{Part}
 pub use Rattle.tor_plan.specs.declared.units.PlanUnit.{PlanUnit}
 pub use Rattle.tor_recheck.specs.Bitfield.{bit_of, bitfield, byte_from, set_count}

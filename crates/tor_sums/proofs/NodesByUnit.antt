@@ -8,7 +8,7 @@ use Rattle.std.specs.Int.{div_ceil}
 use Rattle.std.specs.List.{flat_map, range_with_len}
 use Rattle.tor_merkle.specs.Block.{run_at}
 use Rattle.tor_plan.specs.Entries.{lengths_of_entries, padding_before_next, separate_entry_units}
-use Rattle.tor_plan.specs.Units.{file_unit, units_of_file}
+use Rattle.tor_plan.specs.Entries.{file_unit, units_of_file}
 use Rattle.tor_plan.specs.declared.units.PlanUnit.{PlanUnit}
 use Rattle.tor_v1.specs.declared.entry.Entry.{Entry}
 use Rattle.tor_sums.specs.steps.Hashes.{Node, level_in, node_over, nodes_of_file, nodes_of_unit}

@@ -1,8 +1,7 @@
--- the entries are those of the files, and their plan that of the files
-use Rattle.tor_plan.proofs.Names.{◌≡◌, ◌∙◌, false, ap, ap₂, subst, sym, List, IfOk, v1_entries, Layout, IsEntryList}
-use Rattle.tor_plan.proofs.Names.{plan_of_entries, PlanFacts}
+-- the entries are those of the files
+use Rattle.tor_plan.proofs.Names.{◌∙◌, false, ap₂, subst, sym, List, v1_entries, Layout, IsEntryList}
 use Rattle.tor_plan.proofs.Contents.{File}
-use Rattle.tor_plan.proofs.FileSizes.{files_are_list, same_plan}
+use Rattle.tor_plan.proofs.FileSizes.{files_are_list}
 use Rattle.tor_plan.proofs.Sizes.{v1_piece}
 use Rattle.tor_plan.proofs.plans.Plan.new.Goals as goal
 
@@ -16,12 +15,3 @@ of_entries-requires-clause-entries c =
     subst (IsEntryList kind p) (sym (c.deref.ensures.value ∙ c.in_ok-entries.ensures
     ∙ ap₂ (λ (l : Layout) (fs : List File). v1_entries l p fs) c.layout_of_kind.ensures c.files-files.ensures.value))
     (files_are_list kind false p c.args.list.now.files c.files-files.ensures.lawful c.requires.pieces)
-
-pub returns : goal.returns
-returns c =
-    let kind = c.args.kind in
-    let p = c.args.piece_length in
-    subst (λ (all : PlanFacts). IfOk c.of_entries.result (λ plan. plan ≡ all))
-    (ap (plan_of_entries kind p c.args.span) (c.deref.ensures.value ∙ c.in_ok-entries.ensures
-    ∙ ap₂ (λ (l : Layout) (fs : List File). v1_entries l p fs) c.layout_of_kind.ensures c.files-files.ensures.value)
-    ∙ sym (same_plan kind p c.args.span c.args.list.now.files)) c.of_entries.ensures

@@ -1,5 +1,0 @@
-use Rattle.tor_plan.proofs.ProvedLaws.{units_are_the_content}
-use Rattle.tor_plan.proofs.laws.units_are_the_content.Goals as goal
-
-pub returns : goal.returns
-returns c = units_are_the_content
