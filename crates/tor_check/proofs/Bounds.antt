@@ -1,14 +1,14 @@
 -- Where no condition of the sides holds their lengths are small.
-use Rattle.tor_check.proofs.Names.{◌≡◌, ℕ, inl, inr, ◌+◌, ◌*◌, ◌<◌, ◌≤◌, ◌^◌, true, false, true≢false, Bool, ◌||◌, List}
+use Rattle.tor_check.proofs.Names.{◌≡◌, ℕ, ◌<◌, ◌≤◌, ◌^◌, true, false, true≢false, Bool, ◌||◌, List}
 use Rattle.tor_check.proofs.Names.{[], ◌∷◌, Option, None, Some, map, cond, sum_by, nat_lt, refl, ap, sym, ◌∙◌, arith}
-use Rattle.tor_check.proofs.Names.{subst, find, div_ceil, next_multiple_of, All, AllByRecursion, list_any, cases_lt}
-use Rattle.tor_check.proofs.Names.{ltb-false, mul-le-mul_left, mul-le-mul_right, div_ceil_times, All-from_recursion}
+use Rattle.tor_check.proofs.Names.{subst, find, next_multiple_of, All, AllByRecursion, list_any}
+use Rattle.tor_check.proofs.Names.{ltb-false, All-from_recursion}
 use Rattle.tor_check.proofs.Names.{sum_by-le-sum_by, sum_by-cons, Data, all_listed, first_of_list, list_holds}
 use Rattle.tor_check.proofs.Names.{side_conditions, size_of_listed, earliest, files_if, first_of_both, first_of_tree}
 use Rattle.tor_check.proofs.Names.{list_if, listed_if, tree_holds, tree_if, Listed, Condition, pieces_in, side_files}
 use Rattle.tor_check.proofs.Names.{joined_size, without_padding, ListedFile, kind_of, tree_files, tree_of}
 use Rattle.tor_check.proofs.Names.{lengths_too_large, entries_of, file_of, has_v1, has_v2, length_of, MAX_LENGTH}
-use Rattle.tor_check.proofs.Names.{MAX_TOTAL, ROUNDING, TreeFile}
+use Rattle.tor_check.proofs.Names.{MAX_TOTAL, ROUNDING, TreeFile, ceil_few}
 use Rattle.tor_check.proofs.ListSteps.{any_mapped}
 use Rattle.tor_check.proofs.SideLemmas.{tells_long, tells_size}
 
@@ -42,19 +42,8 @@ none_over {X} f xs e = All-from_recursion _ xs (each xs e)
         let both = first_or (nat_lt MAX_LENGTH (f y)) (list_any (λ x. nat_lt MAX_LENGTH (f x)) ys) h in
         (ltb-false MAX_LENGTH (f y) both.0, each ys both.1)
 
--- no more pieces than bytes
-few_pieces : (p n : ℕ) → 0 < p → div_ceil n p ≤ n
-few_pieces p n some = elim (cases_lt n (div_ceil n p)) [
-  | inl more ↦
-      let times = div_ceil_times n p some in
-      let grown : (n + 1) * p ≤ div_ceil n p * p = mul-le-mul_right p (omega (arith, more)) in
-      let least : n * 1 ≤ n * p = mul-le-mul_left n (omega (arith, some)) in
-      absurd (omega (arith, times.1, grown, least))
-  | inr few ↦ few
-]
-
 rounded_up : (p n : ℕ) → 0 < p → pieces_in p n ≤ next_multiple_of n ROUNDING
-rounded_up p n some = let few = few_pieces p n some in omega (arith, few)
+rounded_up p n some = let few = ceil_few n p some in omega (arith, few)
 
 sum_of_lengths : (files : List TreeFile)
     → sum_by (λ length. next_multiple_of length ROUNDING) (map (λ (file : TreeFile). file.length) files)

@@ -55,7 +55,7 @@ pub use Rattle.tor_check.specs.steps.Sides.{earlier, earlier_refusal, earliest, 
 pub use Rattle.tor_check.specs.steps.Sides.{first_of_tree, list_if, listed_if, number_of, takes_tree, tree_holds}
 pub use Rattle.tor_check.specs.steps.Sides.{tree_if}
 pub use Rattle.tor_check.specs.steps.Views.{viewed}
-pub use Rattle.tor_merkle.proofs.ProvedLaws.{count_of_piece_roots, proofs_are_low}
+pub use Rattle.tor_merkle.proofs.ProvedLaws.{ceil_few, count_of_piece_roots, proofs_are_low}
 pub use Rattle.tor_merkle.specs.Layer.{IsPieceLength, is_piece_length, piece_level, piece_roots}
 pub use Rattle.tor_merkle.specs.Proof.{is_proof, proof_count, proof_level}
 unfoldable pub use Rattle.tor_merkle.specs.Proof.{proof_root, siblings_of}

@@ -1,11 +1,11 @@
 -- The pieces of the units of a plan are not empty, and in a kind with trees one part of a file each.
-use Rattle.std.proofs.Common.{◌≡◌, ◌<◌, ◌*◌, ◌+◌, ℕ, true, List, [], ◌∷◌}
-use Rattle.std.proofs.Common.{get_or, ap, subst, sym, ◌∙◌, arith, zero-add, mul-le-mul_right}
+use Rattle.std.proofs.Common.{◌≡◌, ◌<◌, ℕ, true, List, [], ◌∷◌}
+use Rattle.std.proofs.Common.{get_or, ap, subst, sym, ◌∙◌, arith, zero-add}
 use Rattle.std.specs.Int.{div_ceil}
 use Rattle.std.specs.List.{All, AllByRecursion, flat_map}
-use Rattle.std.proofs.lemmas.Grind.{div_ceil_times}
 use Rattle.std.proofs.lemmas.List.Elements.{All-from_recursion, recursion_from_All}
 use Rattle.std.proofs.lemmas.List.FromFn.{get_or-map-range_with_len, length-map-range_with_len}
+use Rattle.tor_merkle.proofs.ProvedLaws.{below_from_ceil}
 use Rattle.tor_plan.specs.Entries.{entry_units}
 use Rattle.tor_plan.specs.Pieces.{piece_of_unit, pieces_of_unit}
 use Rattle.tor_plan.specs.PlanFacts.{IsPlan, PlanFacts}
@@ -27,12 +27,6 @@ each_list P f [] all = tt
 each_list P f (x ∷ xs) all =
     let both = all_split P (f x) (flat_map f xs) all in
     (both.0, each_list P f xs both.1)
-
-begins_before : (n p k : ℕ) → 0 < p → k < div_ceil n p → k * p < n
-begins_before n p k some less =
-    let bounds = div_ceil_times n p some in
-    let next : (k + 1) * p ≡ k * p + p = omega arith in
-    omega (arith, bounds.1, next, mul-le-mul_right {m = k + 1} {n = div_ceil n p} p (omega (arith, less)))
 
 module _ (plan : PlanFacts) (is : IsPlan plan) where
   abbrev p : ℕ
@@ -67,7 +61,7 @@ module _ (plan : PlanFacts) (is : IsPlan plan) where
       let here = get_or-map-range_with_len (piece_of_unit p unit) 0 count j j d less (zero-add j) in
       let within = pieces_are_within_files plan.lengths p j unit is_unit.parts in
       let long = pieces_are_so_long p j unit in
-      let begins = begins_before (unit_length unit) p j some less in
+      let begins = below_from_ceil (unit_length unit) p j some less in
       record {
         unit = record {
           within = omega (arith, ap unit_length here, within.within, piece_is_small plan.kind p is.pieces);

@@ -1,4 +1,5 @@
 -- How many runs of m there are in n, the last perhaps shorter: run k is one of them exactly where it begins below n.
+use Rattle.std.proofs.Math.Nat.{le-mul_of_pos_right}
 use Rattle.tor_merkle.proofs.Names.{◌≡◌, ℕ, ◌+◌, ◌*◌, ◌<◌, ◌≤◌, arith, inl, inr, le_antisymm, lt_of_mul-lt-mul_right}
 use Rattle.tor_merkle.proofs.Names.{mul-le-mul_right, mul-pos, mul_assoc, cases_lt, div_ceil_times, div_ceil}
 
@@ -49,6 +50,10 @@ ceil_at_most n m c pos le = elim (cases_lt c (div_ceil n m)) [
   | inr more ↦ more
 ]
 
+-- no more runs than n
+pub ceil_few : (n m : ℕ) → 0 < m → div_ceil n m ≤ n
+ceil_few n m pos = ceil_at_most n m n pos (le-mul_of_pos_right {m = m} n pos)
+
 -- the runs cover n
 pub ceil_covers : (n m : ℕ) → 0 < m → n ≤ div_ceil n m * m
 ceil_covers n m pos = (div_ceil_times n m pos).0
@@ -57,18 +62,18 @@ ceil_covers n m pos = (div_ceil_times n m pos).0
 pub ceil_mono : (n more m : ℕ) → 0 < m → n ≤ more → div_ceil n m ≤ div_ceil more m
 ceil_mono n more m pos le = ceil_at_most n m (div_ceil more m) pos (omega (arith, ceil_covers more m pos))
 
+-- so many runs cover n, and one fewer do not
+pub ceil_is : (n m c : ℕ) → n ≤ c * m → c * m < n + m → div_ceil n m ≡ c
+ceil_is n m c low high =
+    let pos : 0 < m = omega arith in
+    let less : c < div_ceil n m + 1 = lt_of_mul-lt-mul_right m (omega (arith, ceil_covers n m pos)) in
+    omega (arith, ceil_at_most n m c pos low)
+
 -- whole runs, and what comes after them
 pub ceil_joined : (c n m : ℕ) → 0 < m → div_ceil (c * m + n) m ≡ c + div_ceil n m
 ceil_joined c n m pos =
-    let rest = div_ceil_times n m pos in
-    let all = div_ceil_times (c * m + n) m pos in
-    let low : div_ceil (c * m + n) m < c + div_ceil n m + 1 = lt_of_mul-lt-mul_right m (omega (arith, rest.0, all.1)) in
-    let high : c + div_ceil n m < div_ceil (c * m + n) m + 1 =
-    lt_of_mul-lt-mul_right m (omega (arith, rest.1, all.0)) in
-    omega arith
+    let bounds = div_ceil_times n m pos in
+    ceil_is (c * m + n) m (c + div_ceil n m) (omega (arith, bounds.0)) (omega (arith, bounds.1))
 
 pub ceil_whole : (c m : ℕ) → 0 < m → div_ceil (c * m) m ≡ c
-ceil_whole c m pos =
-    le_antisymm (ceil_at_most (c * m) m c pos (omega arith))
-    (no_less c (div_ceil (c * m) m) (λ k lt. ceil_from_below (c * m) m k pos
-    (let more : (k + 1) * m ≤ c * m = mul-le-mul_right {n = c} m (omega arith) in omega arith)))
+ceil_whole c m pos = ceil_is (c * m) m c (omega arith) (omega arith)

@@ -7,7 +7,7 @@ use Rattle.tor_merkle.proofs.Names.{piece_roots, tree_leaves, zero_leaf, zero_su
 use Rattle.tor_merkle.proofs.Names.{node, nodes, padded_subtree}
 use Rattle.tor_merkle.proofs.Ceil.{ceil_at_most, ceil_ceil, ceil_covers, ceil_from_below}
 use Rattle.tor_merkle.proofs.Height.{height_covers, height-pow}
-use Rattle.tor_merkle.proofs.Levels.{map-range_same}
+use Rattle.tor_merkle.proofs.Levels.{range_same}
 use Rattle.tor_merkle.proofs.Node.{subtree_root-padded, subtree_root-leaf_run}
 
 pub length-leaves : (content : List ℕ) → length (leaves content) ≡ div_ceil (length content) 16384
@@ -76,7 +76,7 @@ piece_roots-nodes content k =
     let tree = padded top zero_leaf (leaves content) in
     let root = λ (i : ℕ). subtree_root (height (16384 * 2 ^ k / 16384)) (run_at (16384 * 2 ^ k / 16384) tree i) in
     ap (λ n. map root (range_with_len 0 n)) (count-pieces content k)
-    ∙ map-range_same root (node 0 (leaves content) k) count zero_leaf
+    ∙ range_same root (node 0 (leaves content) k) count
     (λ i _.
     ap₂ (λ h n. subtree_root h (run_at n tree i)) level size
     ∙ subtree_root-leaf_run (leaves content) top k i)

@@ -4,10 +4,10 @@ use Rattle.tor_merkle.proofs.Names.{length, get_or, drop, arith, ap, ap₂, ◌�
 use Rattle.tor_merkle.proofs.Names.{le_trans, mul-le-mul_right, div-mul-le_self, suc-add, zero-add, length-drop}
 use Rattle.tor_merkle.proofs.Names.{lt-div-mul-add, two-pow-succ, get_or-drop, length_push, map-range_with_len_more}
 use Rattle.tor_merkle.proofs.Names.{length-map-range_with_len, div_ceil, range_with_len, node, nodes, first_nodes}
-use Rattle.tor_merkle.proofs.Names.{filled, padded_subtree, padded_root, node_of, zero_leaf, zero_subtree, height}
+use Rattle.tor_merkle.proofs.Names.{filled, padded_subtree, padded_root, node_of, zero_subtree, height}
 use Rattle.tor_merkle.proofs.Ceil.{ceil_from_below, ceil_at_most, ceil_covers}
 use Rattle.tor_merkle.proofs.Height.{height_covers, height_least, height_above}
-use Rattle.tor_merkle.proofs.Levels.{map-range_same, get_or-nodes, length-nodes}
+use Rattle.tor_merkle.proofs.Levels.{range_same, get_or-nodes, length-nodes}
 use Rattle.tor_merkle.proofs.Node.{node-append, subtree_root-padded}
 use Rattle.tor_merkle.proofs.BinaryDigits.{div_between}
 
@@ -103,7 +103,7 @@ module _ (k : ℕ) (leaves : List (List ℕ)) where
       → first_nodes 0 leaves k n ≡ first_nodes 0 (leaves ++ leaf ∷ []) k n
   unfolding first_nodes
   first_nodes-push leaf n le =
-      map-range_same (node 0 leaves k) (node 0 (leaves ++ leaf ∷ []) k) n zero_leaf
+      range_same (node 0 leaves k) (node 0 (leaves ++ leaf ∷ []) k) n
       (λ i lt. sym (node-append 0 leaves (leaf ∷ []) k i
       (le_trans (mul-le-mul_right {n = n} (2 ^ k) (omega arith)) le)))
 

@@ -1,6 +1,6 @@
 -- A piece has 16,384 * 2 ^ k bytes, and one hash covers it at level k.
 use Rattle.tor_merkle.proofs.Names.{◌≡◌, ◌*◌, ◌/◌, ◌^◌, ◌≤◌, ◌↔◌, ℕ, Bool, true, ◌&&◌, leb, IsTrue, arith, refl, ap}
-use Rattle.tor_merkle.proofs.Names.{◌∙◌, leb-true, mul-div_cancel_left, and_parts, le-leb, is_power_of_two}
+use Rattle.tor_merkle.proofs.Names.{sym, ◌∙◌, leb-true, mul-div_cancel_left, and_parts, le-leb, is_power_of_two}
 use Rattle.tor_merkle.proofs.Names.{IsPieceLength, piece_level, height, MAX_PIECE_LENGTH, MIN_PIECE_LENGTH}
 use Rattle.std.proofs.Common.{eqb-true}
 use Rattle.tor_merkle.proofs.Height.{height-pow, height_least}
@@ -28,6 +28,11 @@ length_split n allowed =
 
 pub level_is : (n k : ℕ) → n ≡ 16384 * 2 ^ k → piece_level n ≡ k
 level_is n k e = ap (λ x. height (x / 16384)) e ∙ ap height (mul-div_cancel_left (2 ^ k) (omega arith)) ∙ height-pow k
+
+-- a piece has 2 ^ level blocks
+pub length_at_level : (n : ℕ) → IsPieceLength n → n ≡ 16384 * 2 ^ piece_level n
+length_at_level n allowed =
+    let split = length_split n allowed in split.1 ∙ ap (λ k. 16384 * 2 ^ k) (sym (level_is n split.0 split.1))
 
 pub level_low : (n : ℕ) → IsPieceLength n → piece_level n ≤ 16
 level_low n allowed = height_least (n / 16384) 16 (omega (arith, ((length_bounds n).0 allowed).2))

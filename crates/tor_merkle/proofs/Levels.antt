@@ -7,11 +7,11 @@ use Rattle.tor_merkle.proofs.Ceil.{ceil_from_below, ceil_ceil, ceil-one}
 use Rattle.tor_merkle.proofs.Node.{node_past}
 
 -- lists of the values of two functions are equal where the functions are
-pub map-range_same : {X : Type 0} (f g : ℕ → X) (n : ℕ) (d : X) → ((i : ℕ) → i < n → f i ≡ g i)
+pub range_same : {X : Type 0} (f g : ℕ → X) (n : ℕ) → ((i : ℕ) → i < n → f i ≡ g i)
     → map f (range_with_len 0 n) ≡ map g (range_with_len 0 n)
-map-range_same f g n d same =
-    fill_by_all g (map f (range_with_len 0 n)) n d (length-map-range_with_len f 0 n)
-    (λ i lt. get_or-map-range_with_len f 0 n i i d lt (zero-add i) ∙ same i lt)
+range_same f g n same =
+    fill_by_all g (map f (range_with_len 0 n)) n (f 0) (length-map-range_with_len f 0 n)
+    (λ i lt. get_or-map-range_with_len f 0 n i i (f 0) lt (zero-add i) ∙ same i lt)
 
 pub length-nodes : (base : ℕ) (hashes : List (List ℕ)) (k : ℕ)
     → length (nodes base hashes k) ≡ div_ceil (length hashes) (2 ^ k)
@@ -54,5 +54,5 @@ level_above-nodes base hashes k =
     let children =
     λ (i : ℕ). node_of (get_or (nodes base hashes k) (2 * i) pad) (get_or (nodes base hashes k) (2 * i + 1) pad) in
     ap (λ n. map children (range_with_len 0 n)) count
-    ∙ map-range_same children (node base hashes (suc k)) (div_ceil (length hashes) (2 ^ suc k)) pad
+    ∙ range_same children (node base hashes (suc k)) (div_ceil (length hashes) (2 ^ suc k))
     (λ i _. simp get_or-nodes)

@@ -1,22 +1,26 @@
--- The laws of `src/laws.rt`, for proofs that cite them.
+-- The laws of `src/laws.rt`, for proofs that cite them, and lemmas on rounding up, on powers of two and on lists by index.
 use Rattle.tor_merkle.proofs.Names.{◌≡◌, ◌+◌, ◌-◌, ◌*◌, ◌^◌, ◌<◌, ◌≤◌, ℕ, List, [], ◌∷◌, ◌++◌, length, map, arith, sym}
 use Rattle.tor_merkle.proofs.Names.{ap, ap₂, ◌∙◌, pow-add, mul_assoc, mul_comm, inl, inr, pow-lt, cases_lt, cond-true}
 use Rattle.tor_merkle.proofs.Names.{cond-false, eqb-true, lt-ltb, le-ltb, lt-leb, div_ceil, flat_map, range_with_len}
 use Rattle.tor_merkle.proofs.Names.{run_at, leaves, IsPieceLength, pieces_root, piece_level, piece_roots, piece_layer}
 use Rattle.tor_merkle.proofs.Names.{proof_count, proof_level, padded_root, padded_subtree, height, MAX_LENGTH}
 use Rattle.tor_merkle.proofs.Names.{MAX_PIECE_LENGTH}
-use Rattle.tor_merkle.proofs.Ceil.{ceil_at_most, ceil_from_below}
 use Rattle.tor_merkle.proofs.Content.{length-piece_roots, longer_than_piece, piece_roots-nodes, only_piece_root}
 use Rattle.tor_merkle.proofs.Filled.{padded_root-nodes}
 use Rattle.tor_merkle.proofs.Joined.{piece_roots-joined}
 use Rattle.tor_merkle.proofs.Lengths.{length_bounds, length_split, level_is, level_low}
 use Rattle.tor_merkle.proofs.Units.{roots-units}
-use Rattle.tor_merkle.proofs.Power.{power_from_ones}
 use Rattle.tor_merkle.proofs.Sums.{padded_root-leaves}
+pub use Rattle.tor_merkle.proofs.Ceil.{below_from_ceil, ceil_at_most, ceil_few, ceil_from_below, ceil_is, ceil_joined}
+pub use Rattle.tor_merkle.proofs.Ceil.{ceil_mono, ceil_whole}
 pub use Rattle.tor_merkle.proofs.HashLengths.{piece_roots_have_32_bytes, root_has_32_bytes}
 pub use Rattle.tor_merkle.proofs.Content.{length-piece_roots as count_of_piece_roots}
 pub use Rattle.tor_merkle.proofs.Lengths.{length_bounds as piece_length_bounds, level_low as piece_levels_are_low}
-pub use Rattle.tor_merkle.proofs.Height.{height_covers, height_least}
+pub use Rattle.tor_merkle.proofs.Lengths.{length_at_level as piece_at_level}
+pub use Rattle.tor_merkle.proofs.BinaryDigits.{power_within}
+pub use Rattle.tor_merkle.proofs.Height.{height-pow, height_covers, height_least}
+pub use Rattle.tor_merkle.proofs.Levels.{range_same}
+pub use Rattle.tor_merkle.proofs.Power.{power_from_ones}
 pub use Rattle.tor_merkle.proofs.RunRoots.{root_of_halves, root_of_one, root_of_whole}
 pub use Rattle.tor_merkle.proofs.UnitRoots.{root_over_units, subtree_over_pieces}
 

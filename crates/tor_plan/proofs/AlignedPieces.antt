@@ -4,10 +4,9 @@ use Rattle.tor_plan.proofs.Names.{sym, append-nil, inl, inr, subst, lt-ltb, ltb-
 use Rattle.tor_plan.proofs.Names.{range_with_len, V1, Hybrid, padding_length, Entry, after_zeros, empty_unit}
 use Rattle.tor_plan.proofs.Names.{entry_units, padding_before_next, is_filled, ArePadded, IsLaidOut, piece_of_unit}
 use Rattle.tor_plan.proofs.Names.{pieces_of_unit, unit_length, Part, PlanUnit, part_alone, whole_from, whole_unit}
-use Rattle.tor_plan.proofs.Names.{whole_with_padding}
+use Rattle.tor_plan.proofs.Names.{whole_with_padding, ceil_is}
 use Rattle.tor_plan.proofs.EntrySteps.{before_empty, before_some}
 use Rattle.tor_plan.proofs.PieceJoins.{pieces_joined}
-use Rattle.tor_plan.proofs.Runs.{ceil_is}
 use Rattle.tor_plan.proofs.UnitJoins.{parts_first, unit_of}
 use Rattle.tor_plan.proofs.WholeUnits.{by_whole, pieces_of_whole}
 use Rattle.tor_plan.proofs.WholeLaws.{units_are_pieces}

@@ -1,7 +1,6 @@
 -- The bytes of units, file by file.
 use Rattle.tor_plan.proofs.Names.{◌≡◌, ℕ, ◌+◌, ◌<◌, List, [], ◌∷◌, length, map, get_or, drop, arith, refl, ap, ◌∙◌, sym}
-use Rattle.tor_plan.proofs.Names.{get_or-drop, drop-drop, range_with_len, file_unit, units_of_file}
-use Rattle.tor_plan.proofs.Runs.{ceil_is}
+use Rattle.tor_plan.proofs.Names.{get_or-drop, drop-drop, range_with_len, file_unit, units_of_file, ceil_is}
 
 abbrev pub File : Type 0
 File = List (List ℕ) × ℕ

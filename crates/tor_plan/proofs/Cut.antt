@@ -2,9 +2,8 @@
 use Rattle.tor_plan.proofs.Names.{◌≡◌, ◌⊎◌, inl, inr, ℕ, ◌+◌, ◌*◌, ◌<◌, ◌≤◌, max, [], ◌∷◌, ◌++◌, map, arith, ap, ap₂}
 use Rattle.tor_plan.proofs.Names.{◌∙◌, sym, map-range_with_len_more, range_with_len, empty_unit, piece_of_unit}
 use Rattle.tor_plan.proofs.Names.{pieces_of_unit, unit_between, unit_length, Stretch, UnitCut, PlanUnit, joined}
-use Rattle.tor_plan.proofs.Names.{stretch_at, HasCut, IsStretchAt}
+use Rattle.tor_plan.proofs.Names.{stretch_at, HasCut, IsStretchAt, ceil_is}
 use Rattle.tor_plan.proofs.PieceCut.{unit_none, unit_all}
-use Rattle.tor_plan.proofs.Runs.{ceil_is}
 
 module _ (old : UnitCut) (unit : PlanUnit) (x : ℕ) (cut : HasCut old unit x) where
   abbrev begin : ℕ

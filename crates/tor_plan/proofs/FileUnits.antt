@@ -2,10 +2,9 @@
 use Rattle.tor_plan.proofs.Names.{◌≡◌, ℕ, ◌+◌, ◌-◌, ◌*◌, ◌<◌, ◌≤◌, cond, leb, min, [], ◌∷◌, map, arith, ap, ap₂}
 use Rattle.tor_plan.proofs.Names.{◌∙◌, sym, inl, inr, le-leb, lt-leb, cond-true, cond-false, cases_lt, div_ceil_times}
 use Rattle.tor_plan.proofs.Names.{div_ceil, range_with_len, shared, parts_between, piece_of_unit, pieces_of_unit}
-use Rattle.tor_plan.proofs.Names.{file_unit, units_of_file, unit_length, Part, PlanUnit, part_alone}
+use Rattle.tor_plan.proofs.Names.{file_unit, units_of_file, unit_length, Part, PlanUnit, part_alone, ceil_is}
+use Rattle.tor_plan.proofs.Names.{below_from_ceil, range_same}
 use Rattle.tor_plan.proofs.PieceSteps.{no_zeros, part_met}
-use Rattle.tor_plan.proofs.Runs.{ceil_is, range_same}
-use Rattle.tor_plan.proofs.WithinFiles.{run_begins}
 
 module _ (size : ℕ) (pos : 0 < size) (index m tail : ℕ) (fits : (q : ℕ) → m ≤ q * size → m + tail ≤ q * size) where
   abbrev part : Part
@@ -46,4 +45,4 @@ module _ (size : ℕ) (pos : 0 < size) (index m tail : ℕ) (fits : (q : ℕ) �
       ap (λ n. map (piece_of_unit size (part_alone part)) (range_with_len 0 n))
       (ceil_is (unit_length (part_alone part)) size q (omega (arith, long, fits q few.0)) (omega (arith, long, few.1)))
       ∙ range_same (piece_of_unit size (part_alone part)) (file_unit size index m tail) q
-      (λ k lt. file_piece k (run_begins m size k pos lt))
+      (λ k lt. file_piece k (below_from_ceil m size k pos lt))

@@ -5,7 +5,7 @@ pub use Rattle.std.proofs.Common.{length-append, length-drop, lt_of_mul-lt-mul_r
 pub use Rattle.std.proofs.Common.{mul-le-mul_right, mul-pos, mul_assoc, mul_comm, pow-add, pow-suc, refl, rules, set}
 pub use Rattle.std.proofs.Common.{subst, suc, sum, sum_by, sym, take, true, zero, zero-add, ℕ, ◌%◌, ◌&&◌, ◌*◌, ◌++◌}
 pub use Rattle.std.proofs.Common.{◌+◌, ◌-◌, ◌/◌, ◌<◌, ◌^◌, ◌∙◌, ◌∷◌, ◌||◌, ◌≡◌, ◌≢◌, ◌≤◌, ◌⊎◌}
-pub use Rattle.std.proofs.Math.Nat.{le-mul_of_pos_right}
+pub use Rattle.std.proofs.Math.Nat.{le-mul_of_pos_right, pow-le-pow_right}
 pub use Rattle.std.proofs.Math.Pow.{pow-lt}
 pub use Rattle.std.proofs.Math.Seq.{take-add, take-append-add}
 pub use Rattle.std.proofs.lemmas.Bool.{and_from, and_left, and_right, cases_Bool, cases_eq, cases_lt, cases_order}
@@ -28,7 +28,8 @@ pub use Rattle.std.specs.Int.{div_ceil, is_power_of_two, next_multiple_of}
 pub use Rattle.std.specs.Int.RustNames.{count_ones}
 pub use Rattle.std.specs.List.{All, flat_map, list_any, range_with_len}
 pub use Rattle.std.specs.Option.{option_or}
-pub use Rattle.tor_merkle.proofs.ProvedLaws.{height_least}
+pub use Rattle.tor_merkle.proofs.ProvedLaws.{below_from_ceil, ceil_at_most, ceil_few, ceil_is, height_least}
+pub use Rattle.tor_merkle.proofs.ProvedLaws.{power_from_ones, range_same}
 pub use Rattle.tor_merkle.specs.Subtree.{height}
 pub use Rattle.tor_merkle.specs.declared.TheConstants.{MAX_LENGTH}
 pub use Rattle.tor_plan.specs.Content.{layout_of_kind, part_content, unit_content}
@@ -58,14 +59,14 @@ pub use Rattle.tor_plan.specs.steps.Joined.{file_alone, joined, part_alone, zero
 pub use Rattle.tor_plan.specs.steps.UnitCut.{HasCut, IsStretchAt, stretch_at}
 pub use Rattle.tor_plan.specs.steps.Whole.{AreWhole, plan_of_whole, separate_pieces, whole_unit, whole_units}
 unfoldable pub use Rattle.tor_plan.specs.steps.Whole.{whole_from}
-pub use Rattle.tor_tree.proofs.ProvedLaws.{files_are_small}
+pub use Rattle.tor_tree.proofs.ProvedLaws.{files_are_small, is_clear}
 pub use Rattle.tor_tree.specs.FileList.{IsFileList, lengths_fault, lengths_of, lengths_too_large, paths_fault, paths_of}
 pub use Rattle.tor_tree.specs.declared.kinds.Kind.{Kind}
 pub use Rattle.tor_tree.specs.declared.kinds.Kind.TheVariants.{Hybrid, V1, V2}
 pub use Rattle.tor_tree.specs.declared.lists.ListError.{ListError}
 pub use Rattle.tor_tree.specs.declared.lists.ListError.TheVariants.{TooLarge}
 pub use Rattle.tor_tree.specs.declared.lists.TheConstants.{MAX_TOTAL, ROUNDING}
-pub use Rattle.tor_v1.proofs.ProvedLaws.{facts-v1_entries, length-piece_sums, length_of_zeros, no_padding}
+pub use Rattle.tor_v1.proofs.ProvedLaws.{facts-v1_entries, length_of_zeros, no_padding, piece_sums-nil}
 pub use Rattle.tor_v1.proofs.ProvedLaws.{sums_of_joined, whole_with_padding}
 pub use Rattle.tor_v1.specs.Content.{AreContentsOf, file_entries}
 unfoldable pub use Rattle.tor_v1.specs.Content.{joined_content}

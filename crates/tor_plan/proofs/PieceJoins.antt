@@ -2,9 +2,10 @@
 use Rattle.tor_plan.proofs.Names.{◌≡◌, ℕ, ◌+◌, ◌-◌, ◌*◌, ◌<◌, ◌≤◌, cond, ltb, max, List, [], ◌∷◌, ◌++◌, map, sum_by}
 use Rattle.tor_plan.proofs.Names.{refl, arith, ap, ap₂, ◌∙◌, sym, mul-le-mul_right, div_ceil_times, sum_by-cons}
 use Rattle.tor_plan.proofs.Names.{div_ceil, range_with_len, after_part, after_zeros, empty_unit, shared, parts_between}
-use Rattle.tor_plan.proofs.Names.{piece_of_unit, pieces_of_unit, unit_between, unit_length, Part, PlanUnit}
+use Rattle.tor_plan.proofs.Names.{piece_of_unit, pieces_of_unit, unit_between, unit_length, Part, PlanUnit, ceil_is}
+use Rattle.tor_plan.proofs.Names.{range_same}
 use Rattle.tor_plan.proofs.PieceSteps.{between_joined, between_none, from, no_zeros, part_not_met}
-use Rattle.tor_plan.proofs.Runs.{ceil_is, map_same, range-add, range_same}
+use Rattle.tor_plan.proofs.Runs.{map_same, range-add}
 use Rattle.tor_plan.proofs.UnitJoins.{joined, joined_length, part_length, then_nothing, unit_of, zeros_alone}
 
 module _ (a b : ℕ) where

@@ -1,4 +1,4 @@
--- The proofs of the laws of src/laws.rt.
+-- The proofs of the laws of src/laws.rt, and lemmas on entries and logarithms that crates above cite too.
 use Rattle.tor_plan.proofs.Names.{◌≡◌, ◌≢◌, ℕ, ◌+◌, ◌-◌, ◌*◌, ◌<◌, min, List, length, get_or, refl, arith, ap}
 use Rattle.tor_plan.proofs.Names.{◌∙◌}
 use Rattle.tor_plan.proofs.Names.{sym, subst, map, inl, inr, append-nil, eq-zero-or-pos, mul-pos, All, flat_map, Kind}
@@ -13,8 +13,10 @@ use Rattle.tor_plan.proofs.UnitLaws.{within_units}
 use Rattle.tor_plan.proofs.WholeLaws.{content_of_roots, content_of_whole, in_files, no_zeros_first, roots, roots_in}
 use Rattle.tor_plan.proofs.WholeLaws.{separate_whole, units_are_pieces}
 use Rattle.tor_plan.proofs.WholeUnits.{parts_of_whole, pieces_of_whole, zeros_of_whole}
+pub use Rattle.tor_plan.proofs.EntrySteps.{Label, entry_cases, file, padding}
 pub use Rattle.tor_plan.proofs.FilesAsEntries.{files_laid_out, lengths_of_files}
-pub use Rattle.tor_plan.proofs.Trees.{trees_are_runs, units_are_few}
+pub use Rattle.tor_plan.proofs.Sizes.{files_within}
+pub use Rattle.tor_plan.proofs.Trees.{log2_is, trees_are_runs, units_are_few}
 pub use Rattle.tor_plan.proofs.PieceWithin.{pieces_are_within_files}
 pub use Rattle.tor_plan.proofs.Positions.{entry_units_name_each_byte}
 pub use Rattle.tor_plan.proofs.AlignedPieces.{aligned_pieces_are_joined}

@@ -1,17 +1,7 @@
 -- How many runs of so many bytes there are, and what is cut into them, run by run.
 use Rattle.tor_plan.proofs.Names.{◌≡◌, ℕ, zero, suc, ◌+◌, ◌*◌, ◌<◌, min, List, [], ◌∷◌, ◌++◌, map, arith, refl, ap, ap₂}
 use Rattle.tor_plan.proofs.Names.{◌∙◌, sym, append_assoc, append-nil, div_ceil_times, flat_map-append}
-use Rattle.tor_plan.proofs.Names.{map-range_with_len_more, div_ceil, flat_map, range_with_len, ◌≤◌}
-use Rattle.tor_plan.proofs.Names.{lt_of_mul-lt-mul_right}
-
-pub range_same : {X : Type 0} (f g : ℕ → X) (n : ℕ) → ((k : ℕ) → k < n → f k ≡ g k)
-    → map f (range_with_len 0 n) ≡ map g (range_with_len 0 n)
-range_same f g zero same = refl
-range_same f g (suc n) same =
-    let more : suc n ≡ n + 1 = omega arith in
-    ap (λ k. map f (range_with_len 0 k)) more ∙ map-range_with_len_more f 0 n n (omega arith)
-    ∙ ap₂ (λ xs x. xs ++ x ∷ []) (range_same f g n (λ k lt. same k (omega (arith, lt)))) (same n (omega arith))
-    ∙ sym (ap (λ k. map g (range_with_len 0 k)) more ∙ map-range_with_len_more g 0 n n (omega arith))
+use Rattle.tor_plan.proofs.Names.{map-range_with_len_more, div_ceil, flat_map, range_with_len}
 
 pub range-add : {X : Type 0} (f : ℕ → X) (n m : ℕ)
     → map f (range_with_len 0 n) ++ map (λ k. f (n + k)) (range_with_len 0 m) ≡ map f (range_with_len 0 (n + m))
@@ -53,19 +43,6 @@ pub flat_map-same : {X Y : Type 0} (f g : X → List Y) → ((x : X) → f x ≡
     → flat_map f xs ≡ flat_map g xs
 flat_map-same f g same [] = refl
 flat_map-same f g same (x ∷ xs) = ap₂ (λ ys zs. ys ++ zs) (same x) (flat_map-same f g same xs)
-
--- two numbers of runs that both cover n with less than one run too much
-one_count : (n p q k : ℕ) → n ≤ q * p → q * p < n + p → n ≤ k * p → k * p < n + p → q ≡ k
-one_count n p q k q_low q_high k_low k_high =
-    let less : q < k + 1 = lt_of_mul-lt-mul_right p (omega arith) in
-    let more : k < q + 1 = lt_of_mul-lt-mul_right p (omega arith) in
-    omega arith
-
--- so many runs cover n, and one fewer do not
-pub ceil_is : (n p k : ℕ) → n ≤ k * p → k * p < n + p → div_ceil n p ≡ k
-ceil_is n p k low high =
-    let bounds = div_ceil_times n p (omega arith) in
-    one_count n p (div_ceil n p) k bounds.0 bounds.1 low high
 
 pub map_same : {X : Type 0} (f g : ℕ → X) → ((k : ℕ) → f k ≡ g k) → (ks : List ℕ) → map f ks ≡ map g ks
 map_same f g same [] = refl

@@ -1,33 +1,33 @@
 -- The trees of files, one file after another: runs of units, apart and in order, and low.
-use Rattle.tor_plan.proofs.Names.{◌≡◌, ℕ, zero, suc, ◌+◌, ◌*◌, ◌^◌, ◌<◌, ◌≤◌, cond, ltb, leb, List, [], ◌∷◌, ◌++◌}
+use Rattle.tor_plan.proofs.Names.{◌≡◌, ℕ, zero, suc, ◌+◌, ◌*◌, ◌^◌, ◌<◌, ◌≤◌, cond, ltb, List, [], ◌∷◌, ◌++◌}
 use Rattle.tor_plan.proofs.Names.{length, get_or, drop, arith, ap, ◌∙◌, sym, append_assoc, append-nil, inl, inr}
 use Rattle.tor_plan.proofs.Names.{pow-suc, pow-lt, lt-ltb, le-ltb, le-leb, lt-leb, cases_lt, cases_order, cond-true}
 use Rattle.tor_plan.proofs.Names.{cond-false, drop_all, drop_more, div_ceil, Run, log2, unit_level, trees_from, ◌-◌}
 use Rattle.tor_plan.proofs.Names.{◌/◌, map, sum_by, refl, ap₂, subst, mul_comm, mul_assoc, mul-le-mul_right}
-use Rattle.tor_plan.proofs.Names.{lt_of_mul-lt-mul_right, mul-pos, pow-add, div_ceil_times, length-append, length-map}
+use Rattle.tor_plan.proofs.Names.{mul-pos, pow-add, length-append, length-map}
 use Rattle.tor_plan.proofs.Names.{All-head, All-tail, length-range_with_len, sum_by-cons, All, range_with_len}
 use Rattle.tor_plan.proofs.Names.{height_least, height, Kind, V1, MAX_LENGTH, Entry, entries_length, entry_units}
 use Rattle.tor_plan.proofs.Names.{joined_entry_unit, joined_entry_units, lengths_of_entries, padding_before_next}
 use Rattle.tor_plan.proofs.Names.{separate_entry_units, IsEntryList, AreRuns, forest_trees, IsPlan, IsPlanPieceLength}
-use Rattle.tor_plan.proofs.Names.{IsSpan, PlanFacts, file_unit}
+use Rattle.tor_plan.proofs.Names.{IsSpan, PlanFacts, file_unit, ceil_at_most, pow-le-pow_right, ceil_few}
 use Rattle.tor_plan.proofs.EntrySteps.{entry_cases}
-use Rattle.tor_plan.proofs.Sizes.{few_units, units_within, whole_blocks}
+use Rattle.tor_plan.proofs.Sizes.{few_units, whole_blocks}
 
 -- ---- the binary logarithm
-
-log2_next : (n k : ℕ) → (2 ^ k ≤ suc n) × (suc n < 2 ^ suc k)
-    → (2 ^ cond (leb (2 ^ suc k) (suc (suc n))) (suc k) k ≤ suc (suc n))
-    × (suc (suc n) < 2 ^ suc (cond (leb (2 ^ suc k) (suc (suc n))) (suc k) k))
-log2_next n k bounds = elim (cases_lt (suc (suc n)) (2 ^ suc k)) [
-  | inl less ↦
-      rw (lt-leb (2 ^ suc k) (suc (suc n)) less) (let low : 2 ^ k ≤ suc (suc n) = omega (arith, bounds) in (low, less))
-  | inr le ↦ rw (le-leb (2 ^ suc k) (suc (suc n)) le) (le, omega (arith, bounds, pow-suc 2 (suc k)))
-]
 
 pub log2_bounds : (n : ℕ) → (2 ^ log2 (suc n) ≤ suc n) × (suc n < 2 ^ suc (log2 (suc n)))
 unfolding log2
 log2_bounds zero = (omega arith, omega arith)
-log2_bounds (suc n) = log2_next n (log2 (suc n)) (log2_bounds n)
+log2_bounds (suc n) =
+    let k = log2 (suc n) in
+    let bounds = log2_bounds n in
+    elim (cases_lt (suc (suc n)) (2 ^ suc k)) [
+      | inl less ↦ rw (lt-leb (2 ^ suc k) (suc (suc n)) less) (
+        let low : 2 ^ k ≤ suc (suc n) = omega (arith, bounds.0) in low,
+        less,
+      )
+      | inr le ↦ rw (le-leb (2 ^ suc k) (suc (suc n)) le) (le, omega (arith, bounds.1, pow-suc 2 (suc k)))
+    ]
 
 -- no other number has both bounds
 pub log2_is : (n k : ℕ) → 0 < n → 2 ^ k ≤ n → n < 2 * 2 ^ k → k ≡ log2 n
@@ -37,15 +37,9 @@ log2_is (suc n) k some low high =
     let k_next = pow-suc 2 k in
     elim (cases_order k (log2 (suc n))) [
       | inl same ↦ same
-      | inr (inl less) ↦ absurd (omega (arith, bounds.0, high, pow-lt-le (suc k) (log2 (suc n)) (omega arith), k_next))
-      | inr (inr more) ↦ absurd (omega (arith, bounds.1, low, pow-lt-le (suc (log2 (suc n))) k (omega arith)))
-    ] where
-      pow-lt-le : (i j : ℕ) → i ≤ j → 2 ^ i ≤ 2 ^ j
-      pow-lt-le i j le = elim (cases_lt i j) [
-        | inl less ↦ omega (arith, pow-lt less)
-        | inr ge ↦
-            let same : i ≡ j = omega arith in omega (arith, ap (λ x. 2 ^ x) same)
-      ]
+      | inr (inl less) ↦ absurd (omega (arith, bounds.0, high, pow-le-pow_right {n = 2} (omega arith) {i = suc k} {j = log2 (suc n)} (omega arith), k_next))
+      | inr (inr more) ↦ absurd (omega (arith, bounds.1, low, pow-le-pow_right {n = 2} (omega arith) {i = suc (log2 (suc n))} {j = k} (omega arith)))
+    ]
 
 -- ---- the trees from a file on
 
@@ -104,12 +98,6 @@ log2_within : (n : ℕ) → 0 < n → 2 ^ log2 n ≤ n
 log2_within zero some = absurd (omega arith)
 log2_within (suc n) some = (log2_bounds n).0
 
-ceil_most : (m size k : ℕ) → 0 < size → m ≤ k * size → div_ceil m size ≤ k
-ceil_most m size k some le =
-    let bounds = div_ceil_times m size some in
-    let less : div_ceil m size < k + 1 = lt_of_mul-lt-mul_right size (omega (arith, bounds.1, le)) in
-    omega arith
-
 low_tree : (size m : ℕ) → 16384 ≤ size → size ≤ 2 ^ 40 → m ≤ MAX_LENGTH
     → unit_level size + height (div_ceil m size) ≤ 36
 low_tree size m least most small =
@@ -126,7 +114,7 @@ low_tree size m least most small =
     mul-le-mul_right (2 ^ (36 - level)) wide in
     let turned : 2 ^ level * 16384 * 2 ^ (36 - level) ≡ 2 ^ (36 - level) * 2 ^ level * 16384 =
     mul_comm (2 ^ level * 16384) (2 ^ (36 - level)) ∙ sym (mul_assoc (2 ^ (36 - level)) (2 ^ level) 16384) in
-    let few : div_ceil m size ≤ 2 ^ (36 - level) = ceil_most m size (2 ^ (36 - level)) (omega (arith, least))
+    let few : div_ceil m size ≤ 2 ^ (36 - level) = ceil_at_most m size (2 ^ (36 - level)) (omega (arith, least))
     (omega (arith, small, all, up, turned, mul_comm size (2 ^ (36 - level)))) in
     omega (arith, low, height_least (div_ceil m size) (36 - level) few)
 
@@ -194,7 +182,7 @@ units_few V1 piece_length span entries is_span pieces is_list =
     length-map (range_with_len 0 (div_ceil (entries_length entries) size)) (joined_entry_unit size entries)
     ∙ length-range_with_len 0 (div_ceil (entries_length entries) size) in
     let some : 0 < size = mul-pos (omega (arith, is_span.1)) (omega (arith, pieces)) in
-    omega (arith, counted, units_within size (entries_length entries) some, is_list.total)
+    omega (arith, counted, ceil_few (entries_length entries) size some, is_list.total)
 units_few kind piece_length span entries is_span pieces is_list =
     let size = span * piece_length in
     let some : 0 < size = omega (arith, whole_blocks span piece_length is_span.1 pieces.1) in

@@ -5,13 +5,13 @@ use Rattle.tor_plan.proofs.Names.{get_or, zero-add, take-add, div_ceil_times, le
 use Rattle.tor_plan.proofs.Names.{flat_map-append, All-nil, All-append, All-head, All-tail, length-map-range_with_len}
 use Rattle.tor_plan.proofs.Names.{get_or-map-range_with_len, div_ceil, All, flat_map, range_with_len, piece_sums}
 use Rattle.tor_plan.proofs.Names.{sums_of_joined, unit_content, piece_of_unit, pieces_of_unit, unit_between, IsInFile}
-use Rattle.tor_plan.proofs.Names.{IsUnitWithin, unit_length, PlanUnit}
-use Rattle.tor_plan.proofs.Empty.{sums_nil}
+use Rattle.tor_plan.proofs.Names.{IsUnitWithin, unit_length, PlanUnit, ceil_is, piece_sums-nil, below_from_ceil}
+use Rattle.tor_plan.proofs.Names.{range_same}
 use Rattle.tor_plan.proofs.PieceWithin.{pieces_are_within_files, unit_between_length}
-use Rattle.tor_plan.proofs.Runs.{ceil_is, range-add, range_same, runs_are}
+use Rattle.tor_plan.proofs.Runs.{range-add, runs_are}
 use Rattle.tor_plan.proofs.UnitContent.{content_between, length_of_content, AreThere}
 use Rattle.tor_plan.proofs.UnitRanges.{range_of_range}
-use Rattle.tor_plan.proofs.WithinFiles.{all_range, run_begins}
+use Rattle.tor_plan.proofs.WithinFiles.{all_range}
 
 -- ---- their bytes
 
@@ -47,7 +47,7 @@ module _ (contents : List (List ℕ)) (unit : PlanUnit) (there : AreThere conten
       (λ n. piece_sums p (take n all)) (unit_length unit) size pos (λ k less.
       sym (sums_of_joined p (k * span) (take (k * size) all) (unit_content contents (piece_of_unit size unit k)) some
       (length-take-le (k * size) all (omega (arith, less, length_of_content contents unit there)) ∙ (omega arith)))
-      ∙ ap (piece_sums p) (content_step size k)) (sums_nil p some) ∙ ap (piece_sums p) whole
+      ∙ ap (piece_sums p) (content_step size k)) (piece_sums-nil p some) ∙ ap (piece_sums p) whole
 
 -- ---- their pieces
 
@@ -81,7 +81,7 @@ module _ (p span : ℕ) (some : 0 < p) (pos : 0 < span * p) (unit : PlanUnit) wh
       (ap (λ m. map (piece_of_unit p (piece_of_unit size unit k)) (range_with_len 0 (div_ceil m p))) long
       ∙ range_same (piece_of_unit p (piece_of_unit size unit k)) (λ j. piece_of_unit p unit (k * span + j)) count
       (λ j lt.
-      let fits : j < span = lt_of_mul-lt-mul_right p (omega (arith, run_begins n p j some lt)) in
+      let fits : j < span = lt_of_mul-lt-mul_right p (omega (arith, below_from_ceil n p j some lt)) in
       piece_of_piece k j (mul-le-mul_right {m = j + 1} {n = span} p (omega (arith, fits)))))
       ∙ range-add (piece_of_unit p unit) (k * span) count ∙ ap (λ q. map (piece_of_unit p unit) (range_with_len 0 q))
       (sym (ceil_is (min (unit_length unit) ((k + 1) * size)) p (k * span + count)
@@ -105,7 +105,7 @@ whole_piece size pos unit k d lt =
     ∙ omega (
       arith,
       unit_between_length (k * size) ((k + 1) * size) unit,
-      run_begins (unit_length unit) size (k + 1) pos less,
+      below_from_ceil (unit_length unit) size (k + 1) pos less,
     )
 
 -- ---- of several units

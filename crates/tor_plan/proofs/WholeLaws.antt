@@ -6,7 +6,7 @@ use Rattle.tor_plan.proofs.Names.{All-append, All-head, All-tail, div_ceil, All,
 use Rattle.tor_plan.proofs.Names.{joined_content, zeros, Entry, part_content, unit_content, entry_units}
 use Rattle.tor_plan.proofs.Names.{lengths_of_entries, padding_before_next, has_padding, ArePadded, IsLaidOut}
 use Rattle.tor_plan.proofs.Names.{pieces_of_unit, file_unit, units_of_file, IsInFile, IsFileUnit, Part, PlanUnit}
-use Rattle.tor_plan.proofs.Names.{part_alone, separate_pieces, whole_from, whole_unit}
+use Rattle.tor_plan.proofs.Names.{part_alone, separate_pieces, whole_from, whole_unit, below_from_ceil}
 use Rattle.tor_plan.proofs.Contents.{after, after_lengths, from_index, here}
 use Rattle.tor_plan.proofs.EntrySteps.{Label, file, before_empty, before_some, tail_fits, unpadded, Fills}
 use Rattle.tor_plan.proofs.Empty.{zeros-nil}
@@ -14,7 +14,7 @@ use Rattle.tor_plan.proofs.FileUnits.{file_pieces}
 use Rattle.tor_plan.proofs.Runs.{flat_map-same}
 use Rattle.tor_plan.proofs.UnitContent.{part_first, zeros_first}
 use Rattle.tor_plan.proofs.WholeUnits.{by_whole, parts_of_whole, pieces_of_whole, separate_parts}
-use Rattle.tor_plan.proofs.WithinFiles.{all_range, lengths_from, run_begins, whole_of_file}
+use Rattle.tor_plan.proofs.WithinFiles.{all_range, lengths_from, whole_of_file}
 
 -- ---- where its parts are, and its bytes
 
@@ -67,7 +67,7 @@ separate_whole lengths size pos = by_whole
     All-append (IsFileUnit lengths size) (units_of_file size index m unit.zeros) (separate_parts size unit.parts)
     (all_range (IsFileUnit lengths size) (file_unit size index m unit.zeros) (div_ceil m size)
     (λ k lt. whole_of_file lengths size index m unit.zeros k (lengths_of_entries entries) from
-    (run_begins m size k pos lt))) (rest from.after))
+    (below_from_ceil m size k pos lt))) (rest from.after))
     (λ index label m entries unit few rest e. rest (lengths_from lengths index m (lengths_of_entries entries) e).after)
 
 -- ---- files with their padding

@@ -1,8 +1,8 @@
 -- Lists by indices, the lengths of files from one on, and the units of a file.
-use Rattle.tor_plan.proofs.Names.{◌≡◌, ℕ, ◌+◌, ◌-◌, ◌*◌, ◌<◌, ◌≤◌, cond, leb, min, List, ◌∷◌, length, map, get_or, drop}
-use Rattle.tor_plan.proofs.Names.{arith, refl, ap, ◌∙◌, sym, subst, zero-add, length-drop, mul-le-mul_right, lt-leb}
-use Rattle.tor_plan.proofs.Names.{cond-false, div_ceil_times, get_or-drop, drop-drop, length-map-range_with_len}
-use Rattle.tor_plan.proofs.Names.{get_or-map-range_with_len, div_ceil, All, range_with_len, file_unit, IsFileUnit}
+use Rattle.tor_plan.proofs.Names.{◌≡◌, ℕ, ◌+◌, ◌-◌, ◌*◌, ◌<◌, cond, leb, min, List, ◌∷◌, length, map, get_or, drop}
+use Rattle.tor_plan.proofs.Names.{arith, refl, ap, ◌∙◌, sym, subst, zero-add, length-drop, lt-leb}
+use Rattle.tor_plan.proofs.Names.{cond-false, get_or-drop, drop-drop, length-map-range_with_len}
+use Rattle.tor_plan.proofs.Names.{get_or-map-range_with_len, All, range_with_len, file_unit, IsFileUnit}
 
 -- ---- lists by indices
 
@@ -11,12 +11,6 @@ pub all_range : {X : Type 0} (P : X → Type 0) (f : ℕ → X) (n : ℕ) → ((
 all_range P f n each = λ k d lt.
     let within : k < n = omega (arith, lt, length-map-range_with_len f 0 n) in
     subst P (sym (get_or-map-range_with_len f 0 n k k d within (zero-add k))) (each k within)
-
--- a run that is counted begins within
-pub run_begins : (m size k : ℕ) → 0 < size → k < div_ceil m size → k * size < m
-run_begins m size k pos lt = begins (div_ceil m size) lt (div_ceil_times m size pos) where
-  begins : (q : ℕ) → k < q → (m ≤ q * size) × (q * size < m + size) → k * size < m
-  begins q less bounds = omega (arith, mul-le-mul_right {m = k + 1} {n = q} size (omega (arith, less)), bounds.1)
 
 -- the lengths of all files, from a file on
 pub record AreLengthsFrom (lengths : List ℕ) (index m : ℕ) (later : List ℕ) : Type 0 where

@@ -1,13 +1,13 @@
 -- What the facts of files that the maker accepts have: a torrent may be made of them, and their roots have 32 bytes.
-use Rattle.tor_spec.proofs.Names.{◌≡◌, ℕ, ◌+◌, ◌≤◌, Bool, true, false, true≢false, cond, List, [], ◌∷◌, length, map}
-use Rattle.tor_spec.proofs.Names.{nat_lt, Option, None, Some, IfSome, sum_by, refl, sym, ap, ◌∙◌, arith}
-use Rattle.tor_spec.proofs.Names.{next_multiple_of, AllByRecursion, AllZip, list_any, option_or, ltb-false, or_parts}
+use Rattle.tor_spec.proofs.Names.{◌≡◌, ℕ, ◌+◌, ◌≤◌, false, true≢false, List, [], ◌∷◌, length, map}
+use Rattle.tor_spec.proofs.Names.{Option, IfSome, sum_by, refl, sym, ap, ◌∙◌, arith}
+use Rattle.tor_spec.proofs.Names.{next_multiple_of, AllByRecursion, AllZip}
 use Rattle.tor_spec.proofs.Names.{All-map, sum_by-cons, root_has_32_bytes, root_of, Facts, File, listed, roots_in}
 use Rattle.tor_spec.proofs.Names.{total_size, AreMade, sizes_of, AreMakeable, facts_of_files, Settings}
-use Rattle.tor_spec.proofs.Names.{lists_have_names, IsFileList, lengths_fault, lengths_of, lengths_too_large}
-use Rattle.tor_spec.proofs.Names.{attrs_in, attrs_of, paths_fault, paths_of, HasItsRoot, lettered_files, ListError}
-use Rattle.tor_spec.proofs.Names.{MAX_LENGTH, MAX_TOTAL}
-use Rattle.tor_spec.proofs.Names.{ROUNDING}
+use Rattle.tor_spec.proofs.Names.{lists_have_names, IsFileList, lengths_of}
+use Rattle.tor_spec.proofs.Names.{attrs_in, attrs_of, HasItsRoot, lettered_files}
+use Rattle.tor_spec.proofs.Names.{MAX_TOTAL}
+use Rattle.tor_spec.proofs.Names.{ROUNDING, is_clear}
 use Rattle.tor_spec.proofs.MadeHeads.{tree_file}
 
 pub listed_made : (p : ℕ) (files : List File) → listed (facts_of_files p files) ≡ sizes_of files
@@ -45,14 +45,6 @@ pub attrs_made : (p : ℕ) (files : List File) → attrs_in (facts_of_files p fi
 attrs_made p [] = refl
 attrs_made p (file ∷ files) = ap (λ rest. file.attr ∷ rest) (attrs_made p files)
 
-second_none : {X : Type 0} (a b : Option X) → option_or a b ≡ None → b ≡ None
-second_none None b h = h
-second_none (Some x) b h = cc
-
-not_large : (large : Bool) (fault : ListError) → cond large (Some fault) None ≡ None → large ≡ false
-not_large true fault h = cc
-not_large false fault h = refl
-
 rounds_up : (ns : List ℕ) → sum_by (λ n. n) ns ≤ sum_by (λ n. next_multiple_of n ROUNDING) ns
 rounds_up [] = omega arith
 rounds_up (n ∷ ns) =
@@ -61,13 +53,7 @@ rounds_up (n ∷ ns) =
 
 -- all files of a list together are small
 small_list : (files : List (List (List ℕ) × ℕ)) → IsFileList files → sum_by (λ n. n) (lengths_of files) ≤ MAX_TOTAL
-small_list files is =
-    let fault = second_none (paths_fault (paths_of files)) (lengths_fault (lengths_of files)) is.faultless in
-    let parts =
-    or_parts (list_any (nat_lt MAX_LENGTH) (lengths_of files))
-    (nat_lt MAX_TOTAL (sum_by (λ n. next_multiple_of n ROUNDING) (lengths_of files)))
-    (not_large (lengths_too_large (lengths_of files)) _ fault) in
-    omega (arith, rounds_up (lengths_of files), ltb-false MAX_TOTAL _ parts.1)
+small_list files is = omega (arith, rounds_up (lengths_of files), (is_clear files is.faultless).total)
 
 total_listed : (facts : List Facts) → total_size facts ≡ sum_by (λ n. n) (lengths_of (listed facts))
 total_listed [] = refl

@@ -8,9 +8,9 @@ use Rattle.tor_spec.proofs.Names.{listed_paths, side_piece_count, piece_length_o
 use Rattle.tor_spec.proofs.Names.{paths_repeat, has_v1, IsFilePath, as_string, has_letter, has_negative_length}
 use Rattle.tor_spec.proofs.Names.{Attr, Option, attrs_of, each_lettered, has_byte, is_none, is_some, letters}
 use Rattle.tor_spec.proofs.Names.{option_map, unwrap_or, ◌||◌}
-use Rattle.tor_spec.proofs.Names.{letter_l, file_entry, v1_entries, Entry, Layout}
+use Rattle.tor_spec.proofs.Names.{letter_l, file_entry, v1_entries, Entry, Layout, is_clear}
 use Rattle.tor_spec.proofs.MadeHeads.{IsInfo, piece_length_told}
-use Rattle.tor_spec.proofs.MadeListShape.{is_clear, paths_listed, same_count, HasPath, are_entries, no_link}
+use Rattle.tor_spec.proofs.MadeListShape.{paths_listed, same_count, HasPath, are_entries, no_link}
 use Rattle.tor_spec.proofs.MadeListShape.{no_negative, positive_entries}
 use Rattle.tor_spec.proofs.MadeListEntries.{each_entry, items_back, made_entries}
 use Rattle.tor_spec.proofs.MadeListPieces.{made_pieces}

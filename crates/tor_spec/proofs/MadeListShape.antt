@@ -4,9 +4,9 @@ use Rattle.tor_spec.proofs.Names.{◌≡◌, ◌≢◌, ℕ, pos, Bool, true, fa
 use Rattle.tor_spec.proofs.Names.{is_none, None, Some, arith, and_from, le-ltb, or_from, recursion_from_All}
 use Rattle.tor_spec.proofs.Names.{AllByRecursion, list_all, list_any, string, entry_dictionary, strings, are_names}
 use Rattle.tor_spec.proofs.Names.{is_name, is_no_entry, is_path, name_fault, IsFilePath, has_letter}
-use Rattle.tor_spec.proofs.Names.{has_negative_length, letter_l, Entry, ◌==◌, cond, length, Option, option_or}
-use Rattle.tor_spec.proofs.Names.{ListedFile, lengths_fault, lengths_of, lengths_too_large, list_fault, paths_fault}
-use Rattle.tor_spec.proofs.Names.{File, paths_nest, paths_of, paths_repeat, sizes_of}
+use Rattle.tor_spec.proofs.Names.{has_negative_length, letter_l, Entry, length}
+use Rattle.tor_spec.proofs.Names.{ListedFile, lengths_of}
+use Rattle.tor_spec.proofs.Names.{File, paths_of, sizes_of}
 use Rattle.tor_spec.proofs.MadeListEntries.{items_back, listed_file}
 
 all_names : (names : List (List ℕ)) → AllByRecursion (λ name. name_fault name ≡ None) names
@@ -69,35 +69,6 @@ no_link_in entry false false false = refl
 pub no_link : (entries : List Entry) → list_any (has_letter letter_l) (map entry_dictionary entries) ≡ false
 no_link [] = refl
 no_link (entry ∷ entries) = or_from _ _ (no_link_in entry entry.pad entry.exec entry.hidden) (no_link entries)
-
-abbrev Files : Type 0
-Files = List (List (List ℕ) × ℕ)
-
--- a test that gives a fault is not passed where there is none
-clear : {E : Type 0} (test : Bool) (fault : E) (rest : Option E) → cond test (Some fault) rest ≡ None
-    → (test ≡ false) × (rest ≡ None)
-clear true fault rest h = cc
-clear false fault rest h = (refl, h)
-
-neither : {E : Type 0} (first second : Option E) → option_or first second ≡ None → (first ≡ None) × (second ≡ None)
-neither None second h = (refl, h)
-neither (Some fault) second h = cc
-
--- none of the faults that a list of files can have
-pub record IsClear (files : Files) : Type 0 where
-  pub some : (length (paths_of files) == 0) ≡ false
-  pub once : paths_repeat (paths_of files) ≡ false
-  pub flat : paths_nest (paths_of files) ≡ false
-  pub small : lengths_too_large (lengths_of files) ≡ false
-
-pub is_clear : (files : Files) → list_fault files ≡ None → IsClear files
-is_clear files faultless =
-    let both = neither (paths_fault (paths_of files)) (lengths_fault (lengths_of files)) faultless in
-    let some = clear (length (paths_of files) == 0) _ _ both.0 in
-    let once = clear (paths_repeat (paths_of files)) _ _ some.1 in
-    let flat = clear (paths_nest (paths_of files)) _ _ once.1 in
-    let small = clear (lengths_too_large (lengths_of files)) _ _ both.1 in
-    record { some = some.0; once = once.0; flat = flat.0; small = small.0 }
 
 pub paths_listed : (files : List File)
     → map (λ (file : ListedFile). file.path) (map listed_file files) ≡ paths_of (sizes_of files)

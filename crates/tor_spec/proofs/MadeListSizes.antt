@@ -10,8 +10,8 @@ use Rattle.tor_spec.proofs.Names.{padding_length, v1_entries, Entry, Layout, Joi
 use Rattle.tor_spec.proofs.Names.{◌/◌}
 use Rattle.tor_spec.proofs.Names.{◌%◌, inl, inr, lt_of_mul-lt-mul_right, mod-lt, mul-le-mul_right, mul_assoc}
 use Rattle.tor_spec.proofs.Names.{File, attrs_of, each_lettered, letters_change_no_size, mod-add-div', sizes_of}
-use Rattle.tor_spec.proofs.Names.{mod-eq_of_lt, mod_self, cases_eq, piece_lengths_divide_the_greatest}
-use Rattle.tor_spec.proofs.MadeListShape.{IsClear, lengths_listed}
+use Rattle.tor_spec.proofs.Names.{mod-eq_of_lt, mod_self, cases_eq, piece_lengths_divide_the_greatest, IsClear}
+use Rattle.tor_spec.proofs.MadeListShape.{lengths_listed}
 use Rattle.tor_spec.proofs.MadeListEntries.{each_entry, files_of_entries, listed_of, made_entries}
 
 -- so many pieces

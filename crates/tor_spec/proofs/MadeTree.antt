@@ -1,12 +1,12 @@
 -- The file tree of a made torrent: no condition of the v2 side holds, and it tells the files.
-use Rattle.tor_spec.proofs.Names.{◌≡◌, ◌==◌, ℕ, Bool, true, false, not, cond, List, length, map, Option, None, Some}
+use Rattle.tor_spec.proofs.Names.{◌≡◌, ◌==◌, ℕ, true, false, not, List, length, map, None, Some}
 use Rattle.tor_spec.proofs.Names.{refl, ap, ◌∙◌, list_any, All-from_recursion, cond-true, Data, value_of, Facts, File}
 use Rattle.tor_spec.proofs.Names.{attrs_in, listed, roots_in, AreMade, facts_of_files, Settings, tree_files}
 use Rattle.tor_spec.proofs.Names.{tree_length}
 use Rattle.tor_spec.proofs.Names.{tree_mixed, tree_no_files, tree_of, tree_root, tree_shape, tree_symlink}
 use Rattle.tor_spec.proofs.Names.{tree_too_large, file_tree_of_list, tree_of_list_is_readable, lengths_too_large}
 use Rattle.tor_spec.proofs.Names.{files_of_tree, is_folder, lacks_root, properties_in, tree_fault, tree_mixes, has_v2}
-use Rattle.tor_spec.proofs.Names.{has_letter, has_negative_length, length_of, letter_l, file_tree, codes}
+use Rattle.tor_spec.proofs.Names.{has_letter, has_negative_length, length_of, letter_l, file_tree, codes, clear}
 use Rattle.tor_spec.proofs.LawfulTorrents.{one_attr_each}
 use Rattle.tor_spec.proofs.MadeFacts.{Is32Bytes, hashed_roots, listed_made, made_is_makeable, made_lettered, roots_made}
 use Rattle.tor_spec.proofs.MadeHeads.{IsInfo, tree_file}
@@ -20,12 +20,6 @@ pub record TreeIsValid (info : Data) : Type 0 where
   pub link : tree_symlink info ≡ false
   pub mixed : tree_mixed info ≡ false
   pub root : tree_root info ≡ false
-
--- a test that gives a fault is not passed where there is none
-clear : {E : Type 0} (test : Bool) (fault : E) (rest : Option E) → cond test (Some fault) rest ≡ None
-    → (test ≡ false) × (rest ≡ None)
-clear true fault rest h = cc
-clear false fault rest h = (refl, h)
 
 -- where a tree without fault is
 valid_tree : (info tree : Data) → value_of (codes "file tree") info ≡ Some tree → tree_fault tree ≡ None

@@ -42,6 +42,7 @@ pub use Rattle.tor_bencode.specs.Lawful.{PairsAreLawfulWithin}
 unfoldable pub use Rattle.tor_bencode.specs.Spelling.{base_ten}
 pub use Rattle.tor_bencode.specs.Spelling.{spelling}
 pub use Rattle.tor_bencode.specs.View.{items_of}
+pub use Rattle.tor_merkle.proofs.ProvedLaws.{below_from_ceil, ceil_at_most, ceil_whole}
 pub use Rattle.tor_merkle.proofs.ProvedLaws.{count_of_piece_roots, layer_of_long_content, piece_length_bounds}
 pub use Rattle.tor_merkle.proofs.ProvedLaws.{piece_lengths_divide_the_greatest, piece_roots_have_32_bytes}
 pub use Rattle.tor_merkle.proofs.ProvedLaws.{piece_roots_of_joined, root_has_32_bytes, root_of_long_content}
@@ -86,6 +87,7 @@ pub use Rattle.tor_spec.specs.valid.TreeSide.{tree_files, tree_length, tree_mixe
 pub use Rattle.tor_spec.specs.valid.TreeSide.{tree_shape, tree_symlink, tree_too_large}
 pub use Rattle.tor_spec.specs.valid.View.{FileView, View, entry_of_file, file_of_list, file_of_tree, files_of}
 pub use Rattle.tor_spec.specs.valid.View.{file_of_both, files_of_both, lettered, tree_piece_count, view_of}
+pub use Rattle.tor_tree.proofs.ProvedLaws.{IsClear, clear, is_clear}
 pub use Rattle.tor_tree.proofs.ProvedLaws.{file_tree_is_lawful, file_tree_of_list, files_are_small, lists_have_names}
 pub use Rattle.tor_tree.proofs.ProvedLaws.{tree_of_list_is_readable}
 pub use Rattle.tor_tree.specs.FileList.{IsFileList, lengths_fault, lengths_of, lengths_too_large, list_fault}

@@ -1,15 +1,15 @@
 -- The pieces in the torrent's own contents: those of a v2 side have their Merkle hashes, those of a v1 side their
 -- SHA-1.
-use Rattle.tor_spec.proofs.Names.{◌≡◌, ℕ, ◌+◌, ◌*◌, ◌<◌, ◌≤◌, Bool, true, false, List, [], ◌∷◌, length, map, take, drop}
+use Rattle.tor_spec.proofs.Names.{◌≡◌, ℕ, ◌*◌, ◌<◌, Bool, true, false, List, [], ◌∷◌, length, map, take, drop}
 use Rattle.tor_spec.proofs.Names.{get_or, unwrap_or, arith, refl, ap, ◌∙◌, sym, inl, inr, take_all}
-use Rattle.tor_spec.proofs.Names.{lt_of_mul-lt-mul_right, mul-le-mul_right, zero-add, and_from, cases_lt, cond-false}
-use Rattle.tor_spec.proofs.Names.{cond-true, le-ltb, lt-ltb, div_ceil_times, All-append, All-from_get_or, All-nil}
+use Rattle.tor_spec.proofs.Names.{lt_of_mul-lt-mul_right, zero-add, and_from, cases_lt, cond-false}
+use Rattle.tor_spec.proofs.Names.{cond-true, le-ltb, lt-ltb, All-append, All-from_get_or, All-nil}
 use Rattle.tor_spec.proofs.Names.{get_or-map-range_with_len, length-map-range_with_len, bytes_eq-Decides, div_ceil}
 use Rattle.tor_spec.proofs.Names.{range_with_len, All, nat_lt, bytes_eq, layer_of_long_content, piece_length_bounds}
 use Rattle.tor_spec.proofs.Names.{run_at, IsPieceLength, piece_layer, pieces_root, root_of, File, bytes_in, file_bytes}
 use Rattle.tor_spec.proofs.Names.{is_whole, file_pieces, is_merkle_piece, merkle_hash, merkle_pieces, told_hash}
 use Rattle.tor_spec.proofs.Names.{FileView, joined_bytes, is_sha1_piece, View, AreContentsOf, joined_content, v1_pieces}
-use Rattle.tor_spec.proofs.Names.{piece_sums}
+use Rattle.tor_spec.proofs.Names.{piece_sums, below_from_ceil}
 use Rattle.tor_spec.proofs.MadeHeads.{tree_file}
 use Rattle.tor_spec.proofs.MadeListPieces.{contents_of}
 use Rattle.tor_spec.proofs.OwnBytes.{bytes_there, file_there, run_there, there, whole_there, joined_there}
@@ -37,14 +37,6 @@ told_file p file = record {
 root_told : (content : List ℕ) → 0 < length content → unwrap_or (root_of content) [] ≡ pieces_root content
 root_told [] some = absurd (omega (arith, some))
 root_told (byte ∷ bytes) some = refl
-
-begins_within : (n p i : ℕ) → 0 < p → i < div_ceil n p → i * p < n
-begins_within n p i some lt = by (div_ceil n p) (div_ceil_times n p some) lt where
-  by : (q : ℕ) → (n ≤ q * p) × (q * p < n + p) → i < q → i * p < n
-  by q bounds less =
-      let next : (i + 1) * p ≡ i * p + p = omega arith in
-      let le : (i + 1) * p ≤ q * p = mul-le-mul_right p (omega (arith, less)) in
-      omega (arith, next, le, bounds.1)
 
 module _ (p : ℕ) (allowed : IsPieceLength p) (file : File) where
   abbrev content : List ℕ
@@ -87,7 +79,7 @@ module _ (p : ℕ) (allowed : IsPieceLength p) (file : File) where
   own_file =
       let some : 0 < p = let bounds = (piece_length_bounds p).0 allowed in omega (arith, bounds.1) in
       all_true (is_merkle_piece p (told_file p file) content) (div_ceil (length content) p)
-      (λ i lt. own_piece i (begins_within (length content) p i some lt))
+      (λ i lt. own_piece i (below_from_ceil (length content) p i some lt))
 
 pub own_merkle_pieces : (p : ℕ) → IsPieceLength p → (files : List File)
     → All (λ bit. bit ≡ true) (merkle_pieces p (map (told_file p) files) (contents_of files))

@@ -9,8 +9,8 @@ use Rattle.tor_spec.proofs.Names.{refl, ap₂, length-append, cond-true, length-
 use Rattle.tor_spec.proofs.Names.{file_pieces, is_merkle_piece, merkle_pieces, pieces_in, info_of, kind_of}
 use Rattle.tor_spec.proofs.Names.{piece_length_of, tree_files, FileView, file_of_tree, files_of, tree_piece_count}
 use Rattle.tor_spec.proofs.Names.{view_of, files_of_both, listed_files, has_v1, has_v2, if◌then◌else◌, TreeFile}
+use Rattle.tor_spec.proofs.Names.{ceil_whole}
 use Rattle.tor_spec.proofs.Lettered.{sum_lettered}
-use Rattle.tor_spec.proofs.OwnSums.{ceil_exact}
 
 module _ (p : ℕ) (allowed : IsPieceLength p) (d : List ℕ) where
   abbrev root : List ℕ → List ℕ
@@ -44,7 +44,7 @@ module _ (p : ℕ) (allowed : IsPieceLength p) (d : List ℕ) where
       let rest = drop (i * p) xs in
       let long : length x ≡ i * p = length-take-le (i * p) xs (omega (arith, begun)) in
       let count : length (piece_roots x p) ≡ i =
-      count_of_piece_roots x p ∙ ap (λ n. div_ceil n p) long ∙ ceil_exact p i some in
+      count_of_piece_roots x p ∙ ap (λ n. div_ceil n p) long ∙ ceil_whole i p some in
       let here : i ≡ length (piece_roots x p) + 0 = omega (arith, count) in
       ap (λ zs. get_or (piece_roots zs p) i d) (sym (take-append-drop (i * p) xs))
       ∙ ap (λ roots. get_or roots i d) (piece_roots_of_joined x rest p i allowed long)

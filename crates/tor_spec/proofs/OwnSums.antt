@@ -1,35 +1,16 @@
 -- The i-th 20 bytes of the joined SHA-1 of a content's pieces are the SHA-1 of piece i.
-use Rattle.tor_spec.proofs.Names.{◌≡◌, ℕ, ◌+◌, ◌*◌, ◌<◌, ◌≤◌, List, [], length, take, drop, arith, ap, ◌∙◌, sym, inl}
+use Rattle.tor_spec.proofs.Names.{◌≡◌, ℕ, ◌*◌, ◌<◌, ◌≤◌, List, [], length, take, drop, arith, ap, ◌∙◌, sym, inl}
 use Rattle.tor_spec.proofs.Names.{inr, take_all, take_at, drop_at, take-append-drop, length-take-le}
-use Rattle.tor_spec.proofs.Names.{lt_of_mul-lt-mul_right, cases_lt, div_ceil_times, drop_all, nil_from_length, div_ceil}
-use Rattle.tor_spec.proofs.Names.{run_at, length-piece_sums, sums_of_joined, piece_sums}
-
--- a ceiling is at most any number of pieces that covers
-pub ceil_within : (n p k : ℕ) → 0 < p → n ≤ k * p → div_ceil n p ≤ k
-ceil_within n p k some le = by (div_ceil n p) (div_ceil_times n p some) where
-  by : (q : ℕ) → (n ≤ q * p) × (q * p < n + p) → q ≤ k
-  by q bounds =
-      let next : (k + 1) * p ≡ k * p + p = omega arith in
-      let less : q < k + 1 = lt_of_mul-lt-mul_right p (omega (arith, next, bounds.1, le)) in
-      omega (arith, less)
-
-pub ceil_exact : (p k : ℕ) → 0 < p → div_ceil (k * p) p ≡ k
-ceil_exact p k some = by (div_ceil (k * p) p) (div_ceil_times (k * p) p some) where
-  by : (q : ℕ) → (k * p ≤ q * p) × (q * p < k * p + p) → q ≡ k
-  by q bounds =
-      let next : (k + 1) * p ≡ k * p + p = omega arith in
-      let after : (q + 1) * p ≡ q * p + p = omega arith in
-      let less : q < k + 1 = lt_of_mul-lt-mul_right p (omega (arith, next, bounds.1)) in
-      let more : k < q + 1 = lt_of_mul-lt-mul_right p (omega (arith, after, bounds.0, some)) in
-      omega (arith, less, more)
+use Rattle.tor_spec.proofs.Names.{cases_lt, drop_all, nil_from_length, div_ceil}
+use Rattle.tor_spec.proofs.Names.{run_at, length-piece_sums, sums_of_joined, piece_sums, ceil_at_most, ceil_whole}
 
 module _ (p : ℕ) (some : 0 < p) where
   few_sums : (xs : List ℕ) (k : ℕ) → length xs ≤ k * p → length (piece_sums p xs) ≤ 20 * k
-  few_sums xs k le = omega (arith, length-piece_sums p xs, ceil_within (length xs) p k some le)
+  few_sums xs k le = omega (arith, length-piece_sums p xs, ceil_at_most (length xs) p k some le)
 
   whole_sums : (xs : List ℕ) (k : ℕ) → length xs ≡ k * p → length (piece_sums p xs) ≡ 20 * k
   whole_sums xs k long =
-      length-piece_sums p xs ∙ ap (λ n. 20 * div_ceil n p) long ∙ ap (λ n. 20 * n) (ceil_exact p k some)
+      length-piece_sums p xs ∙ ap (λ n. 20 * div_ceil n p) long ∙ ap (λ n. 20 * n) (ceil_whole k p some)
 
   first_sum : (xs : List ℕ) → take 20 (piece_sums p xs) ≡ piece_sums p (take p xs)
   first_sum xs = elim (cases_lt p (length xs)) [

@@ -1,9 +1,9 @@
 -- Zeros that are fed to the sums of pieces, run by run.
 use Rattle.std.proofs.Common.{◌≡◌, ℕ, ◌+◌, ◌<◌, ◌≤◌, ◌++◌, List, Result, Ok, Err, OnErr, ap, sym, subst, ◌∙◌}
-use Rattle.std.proofs.Common.{append-nil, append_assoc, arith, length, length-append, lt_of_mul-lt-mul_right}
-use Rattle.std.proofs.lemmas.Grind.{div_ceil_times}
+use Rattle.std.proofs.Common.{append-nil, append_assoc, arith, length, length-append}
 use Rattle.std.proofs.lemmas.List.{length-replicate, replicate-append-replicate}
 use Rattle.std.specs.Int.{div_ceil}
+use Rattle.tor_merkle.proofs.ProvedLaws.{ceil_mono}
 use Rattle.tor_v1.specs.Feeding.{HasFed, Feeds}
 use Rattle.tor_v1.specs.Piece.{zeros}
 use Rattle.tor_v1.specs.declared.sums.PieceSums.{PieceSums}
@@ -32,18 +32,11 @@ pub length_with_zeros : (xs : List ℕ) (n : ℕ) → length (xs ++ zeros n) ≡
 unfolding zeros
 length_with_zeros xs n = length-append xs (zeros n) ∙ ap (λ k. length xs + k) (length-replicate n 0)
 
-more_needs_no_fewer : (n more m : ℕ) → 0 < m → n ≤ more → div_ceil n m ≤ div_ceil more m
-more_needs_no_fewer n more m pos le =
-    let few = div_ceil_times n m pos in
-    let many = div_ceil_times more m pos in
-    let below : div_ceil n m < div_ceil more m + 1 = lt_of_mul-lt-mul_right m (omega (arith, le, few.1, many.0)) in
-    omega (arith, below)
-
 -- where more bytes begin no piece, some of them begin none after others of them
 pub some_begin_none : (length done some more m : ℕ) → 0 < m → done + some ≤ more
     → div_ceil (length + more) m ≤ div_ceil length m
     → div_ceil (length + done + some) m ≤ div_ceil (length + done) m
 some_begin_none length done some more m pos le none =
-    let low = more_needs_no_fewer (length + done + some) (length + more) m pos (omega (arith, le)) in
-    let high = more_needs_no_fewer length (length + done) m pos (omega arith) in
+    let low = ceil_mono (length + done + some) (length + more) m pos (omega (arith, le)) in
+    let high = ceil_mono length (length + done) m pos (omega arith) in
     omega (arith, low, none, high)

@@ -1,4 +1,5 @@
--- The proofs of the laws of src/laws.rt: what the crates above may cite of these proofs.
+-- The proofs of the laws of src/laws.rt, and what a list without faults has: what the crates above may cite of these
+-- proofs.
 use Rattle.tor_tree.proofs.Cited.{◌≡◌, ◌+◌, ◌<◌, ◌≤◌, ◌≢◌, ◌^◌, ℕ, List, [], Less, None, Option, length, get_or, map}
 use Rattle.tor_tree.proofs.Cited.{true, arith, IfSome, IsTotalOrder, All, AllZip, IsPermutation, IsStrictlySortedBy}
 use Rattle.tor_tree.proofs.Cited.{All-from_recursion, recursion_from_All, Data, HasRisingKeys, IsLawfulWithin}
@@ -16,6 +17,7 @@ use Rattle.tor_tree.proofs.IndexedPaths.{moved_to_indices}
 use Rattle.tor_tree.proofs.Readable.{all_named, path_named, readable}
 use Rattle.tor_tree.proofs.ReadFiles.{read_paths, read_roots, rooted_by_index}
 use Rattle.tor_tree.proofs.RisingPaths.{paths_rise}
+pub use Rattle.tor_tree.proofs.ListFaults.{IsClear, clear, is_clear, neither}
 
 pub one_file_tree : AtMostOneTree
 one_file_tree = one_tree

@@ -9,7 +9,7 @@ use Rattle.tor_tree.proofs.Cited.{All-from_recursion}
 use Rattle.tor_tree.proofs.Cited.{recursion_from_All}
 use Rattle.tor_tree.proofs.FilesBelow.{faultless_named}
 use Rattle.tor_tree.proofs.LetteredProperties.{made_file, made_of, with_text}
-use Rattle.tor_tree.proofs.ListFaults.{none_inside, not_too_large, some_files}
+use Rattle.tor_tree.proofs.ListFaults.{is_clear}
 use Rattle.tor_tree.proofs.OneTree.{AreTidyFiles, tidy_of}
 use Rattle.tor_tree.proofs.PathLists.{nest_found}
 use Rattle.tor_tree.proofs.Shaped.{HaveNames, no_link, no_negative_length, shaped_folder}
@@ -147,17 +147,16 @@ module _ (files : List (List (List ℕ) × ℕ)) (attrs : List Attr) (roots : Li
       let some : HavePaths (entries_of tree) =
       moved (λ path. path ≢ []) (entries_of tree) files paths_told (some_paths files are) in
       let apart : AreApart (paths_in (entries_of tree)) =
-      rw paths_told (apart_list files lawful.in_order (none_inside files lawful.faultless)) in
+      rw paths_told (apart_list files lawful.in_order (is_clear files lawful.faultless).flat) in
       let told : AllByRecursion (λ (file : TreeFile). IsRoot file.root) (map file_of (entries_of tree)) =
       rw made.described (lettered_roots files attrs roots rooted) in
       rw (
         shaped_folder tree made.tidy named,
         no_negative_length (entries_of tree) tidy,
         same_count,
-        some_files files
-            lawful.faultless,
+        (is_clear files lawful.faultless).some,
         lengths_told,
-        not_too_large files lawful.faultless,
+        (is_clear files lawful.faultless).small,
         no_link (entries_of tree) tidy,
         unmixed tree made.tidy made.keys apart some,
         no_missing_root (entries_of tree) tidy told,

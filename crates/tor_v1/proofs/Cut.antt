@@ -10,7 +10,7 @@ use Rattle.std.specs.Int.{div_ceil}
 use Rattle.std.specs.List.{flat_map, range_with_len}
 use Rattle.sha1.specs.Sha1.{sha1}
 use Rattle.tor_v1.specs.Piece.{pieces_of, piece_sums}
-use Rattle.tor_v1.proofs.Ceil.{ceil_is}
+use Rattle.tor_merkle.proofs.ProvedLaws.{ceil_is}
 
 -- numbers from the next one on
 map-next : {X : Type 0} (f g : ℕ → X) (a n : ℕ) → ((i : ℕ) → f (i + 1) ≡ g i)

@@ -10,7 +10,7 @@ use Rattle.tor_v1.specs.Feeding.{HasFed, in_pieces}
 use Rattle.tor_v1.specs.Piece.{piece_sums}
 use Rattle.tor_v1.specs.steps.Room.{HasRoom}
 use Rattle.tor_v1.specs.declared.sums.PieceSums.{PieceSums}
-use Rattle.tor_v1.proofs.Ceil.{ceil_add, ceil_mono}
+use Rattle.tor_merkle.proofs.ProvedLaws.{ceil_joined, ceil_mono}
 use Rattle.tor_v1.proofs.Cut.{piece_sums-nil, piece_sums-append}
 
 -- k whole pieces were fed, and then the rest
@@ -117,10 +117,10 @@ module _ (sums : PieceSums) (p : ℕ) (bytes : List ℕ) (fed : HasFed sums p by
       let positive = pos in
       let before : div_ceil (length bytes) p ≡ length bytes / p + div_ceil sums.begun p =
       ap (λ n. div_ceil n p) (sym split ∙ ap (λ r. length bytes / p * p + r) (sym fed.begun))
-      ∙ ceil_add (length bytes / p) p sums.begun positive in
+      ∙ ceil_joined (length bytes / p) sums.begun p positive in
       let after : div_ceil (length bytes + more) p ≡ length bytes / p + div_ceil (sums.begun + more) p =
       ap (λ n. div_ceil n p) (let e : length bytes + more ≡ length bytes / p * p + (sums.begun + more) =
-      omega (arith, split, fed.begun) in e) ∙ ceil_add (length bytes / p) p (sums.begun + more) positive in
+      omega (arith, split, fed.begun) in e) ∙ ceil_joined (length bytes / p) (sums.begun + more) p positive in
       let fewer = no_more _ _ (length bytes / p) _ _ before after le in
       let P : ℕ → Type 0 = λ n. div_ceil (sums.begun + more) n ≤ div_ceil sums.begun n in
       fits _ _ _ _ (subst P (sym fed.cut_every) fewer) sums.room
@@ -144,5 +144,5 @@ room_next sums part later len capacity full longer more room =
     let positive : 0 < sums.piece_length = omega (arith, sums.allowed.0) in
     let one : div_ceil (sums.begun + (part + later)) sums.piece_length ≡ 1 + div_ceil later sums.piece_length =
     ap (λ n. div_ceil n sums.piece_length) (let e : sums.begun + (part + later) ≡ 1 * sums.piece_length + later =
-    omega (arith, full) in e) ∙ ceil_add 1 sums.piece_length later positive in
+    omega (arith, full) in e) ∙ ceil_joined 1 later sums.piece_length positive in
     still_fits _ _ _ _ _ _ _ one (ap (λ n. div_ceil n sums.piece_length) (zero-add later)) longer more room

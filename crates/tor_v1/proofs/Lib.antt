@@ -1,5 +1,4 @@
 pub mod Zeros
-pub mod Ceil
 pub mod Cut
 pub mod Fed
 pub mod RunSums

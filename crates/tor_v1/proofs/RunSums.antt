@@ -13,7 +13,7 @@ use Rattle.tor_v1.specs.Feeding.{HasFed, in_pieces}
 use Rattle.tor_v1.specs.Piece.{pieces_of, piece_sums}
 use Rattle.tor_v1.specs.steps.Room.{HasRoom}
 use Rattle.tor_v1.specs.declared.sums.PieceSums.{PieceSums}
-use Rattle.tor_v1.proofs.Ceil.{ceil_is, ceil_add}
+use Rattle.tor_merkle.proofs.ProvedLaws.{ceil_is, ceil_joined}
 use Rattle.tor_v1.proofs.Cut.{sums-append}
 use Rattle.tor_v1.proofs.Fed.{HasFed-append, pos}
 
@@ -57,7 +57,7 @@ ceil_run : (begun p later : ℕ) → 0 < p → begun ≡ 0
     → div_ceil (begun + (8 * p + later)) p ≡ 8 + div_ceil (begun + later) p
 ceil_run begun p later some none =
     ap (λ n. div_ceil n p) (let e : begun + (8 * p + later) ≡ 8 * p + (begun + later) = omega arith in e)
-    ∙ ceil_add 8 p (begun + later) some
+    ∙ ceil_joined 8 (begun + later) p some
 
 still_fits : (n n' capacity capacity' q q' : ℕ) → q ≡ 8 + q' → n' ≡ n + 160 → capacity ≤ capacity'
     → n + 20 * q ≤ capacity → n' + 20 * q' ≤ capacity'
