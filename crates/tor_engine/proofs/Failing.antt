@@ -1,6 +1,7 @@
 -- The first of numbered units that fails, and of two halves of them.
 use Rattle.std.proofs.Common.{◌≡◌, ◌<◌, ◌≤◌, ℕ, suc, ◌+◌, List, [], ◌∷◌, ◌++◌, length, take, get_or, Option, None}
-use Rattle.std.proofs.Common.{Some, true, nat_le, inl, inr, option_map, unwrap_or, refl, ap, sym, ◌∙◌, arith, if◌then◌else◌}
+use Rattle.std.proofs.Common.{Some, true, nat_le, inl, inr, option_map, unwrap_or, refl, ap, sym, ◌∙◌, arith}
+use Rattle.std.proofs.Common.{if◌then◌else◌}
 use Rattle.std.specs.List.{enumerate_from}
 use Rattle.std.proofs.lemmas.Bool.{le-leb}
 use Rattle.std.proofs.lemmas.List.{take_all}
@@ -25,7 +26,8 @@ numbered_append n (x ∷ xs) ys =
 
 module _ {F : Type 0} where
   -- the first number, or one of the others
-  here_or_later : (n count : ℕ) (fault : Option (EngineError F)) (rest : Option (UnitFailure F)) (failure : UnitFailure F)
+  here_or_later : (n count : ℕ) (fault : Option (EngineError F)) (rest : Option (UnitFailure F))
+      (failure : UnitFailure F)
       → option_or (option_map (λ error. record { unit = n; error = error }) fault) rest ≡ Some failure
       → (rest ≡ Some failure → (n + 1 ≤ failure.unit) × (failure.unit < (n + 1) + count))
       → (n ≤ failure.unit) × (failure.unit < n + suc count)

@@ -2,14 +2,14 @@
 use Rattle.std.proofs.Common.{◌≡◌, ◌<◌, ◌≤◌, ℕ, ◌+◌, ◌*◌, Bool, true, false, true≢false, cond, List, [], ◌∷◌}
 use Rattle.std.specs.Prelude.{IsSome}
 use Rattle.std.proofs.Common.{◌++◌, length, drop, sum_by, get_or, Option, None, Some, refl, ap, ap₂}
-use Rattle.std.proofs.Common.{sym, subst, ◌∙◌, arith, append-nil, ◌/◌}
+use Rattle.std.proofs.Common.{sym, subst, ◌∙◌, arith, append-nil, ◌/◌, lt_of_mul-lt-mul_right}
 use Rattle.std.specs.Int.{div_ceil}
 use Rattle.std.specs.List.{AllByRecursion, flat_map, list_all, slice_get}
 use Rattle.std.specs.Simd.{first_chunks}
+use Rattle.std.proofs.lemmas.Grind.{div_ceil_times}
 use Rattle.std.proofs.lemmas.List.{length-drop, length-replicate, length-take-le, take_all}
 use Rattle.std.proofs.lemmas.List.Elements.{recursion_from_All}
 use Rattle.std.proofs.lemmas.List.Sums.{sum_by-cons}
-use Rattle.tor_merkle.proofs.ProvedLaws.{ceil_is}
 use Rattle.tor_plan.specs.Content.{part_content, unit_content}
 use Rattle.tor_plan.specs.PlanFacts.{PlanFacts}
 use Rattle.tor_plan.specs.Present.{is_part_there, is_there}
@@ -35,6 +35,13 @@ LengthOfSums = (p : ℕ) (content : List ℕ) → length (piece_sums p content) 
 
 -- ---- the hashes of one piece
 
+one_ceil : (n p : ℕ) → 0 < n → n ≤ p → div_ceil n p ≡ 1
+one_ceil n p some le =
+    let bounds = div_ceil_times n p (omega (arith, some, le)) in
+    let low : 0 < div_ceil n p = lt_of_mul-lt-mul_right p (omega (arith, some, bounds.0)) in
+    let high : div_ceil n p < 2 = lt_of_mul-lt-mul_right p (omega (arith, le, bounds.1)) in
+    omega (arith, low, high)
+
 one_sum : (sum : List ℕ) → length sum ≡ 20 → sums_in sum ≡ sum ∷ []
 one_sum sum long =
     ap (λ n. first_chunks 20 (n / 20) sum) long ∙ ap (λ xs. xs ∷ []) (take_all 20 sum (omega (arith, long)))
@@ -52,7 +59,7 @@ module _ (plan : PlanFacts) (contents : List (List ℕ)) (piece : PlanUnit) (is 
   one_sum_if sums_law true text is_sum =
       let content = unit_content contents piece in
       let long = unit_long contents piece there in
-      let count = ceil_is (length content) p 1 (omega (arith, long, is.within)) (omega (arith, long, is.some)) in
+      let count = one_ceil (length content) p (omega (arith, long, is.some)) (omega (arith, long, is.within)) in
       ap (λ xs. slice_get xs 0) (ap sums_in is_sum
       ∙ one_sum (piece_sums p content) (sums_law p content ∙ ap (λ n. 20 * n) count))
   one_sum_if sums_law false text is_sum = ap (λ xs. slice_get (sums_in xs) 0) is_sum
@@ -126,8 +133,8 @@ pub padding_is : (sums_law : LengthOfSums) (plan : PlanFacts) (sum : List ℕ) (
 unfolding zeros
 padding_is sums_law plan sum found some none is at =
     let p = plan.piece_length in
-    let count = ceil_is (length (zeros p)) p 1 (omega (arith, length-replicate {A = ℕ} p 0))
-    (omega (arith, length-replicate {A = ℕ} p 0, some)) in
+    let count = one_ceil (length (zeros p)) p (omega (arith, length-replicate {A = ℕ} p 0, some))
+    (omega (arith, length-replicate {A = ℕ} p 0)) in
     let long : length sum ≡ 20 = ap length is ∙ sums_law p (zeros p) ∙ ap (λ n. 20 * n) count in
     subst (λ (o : Option (List ℕ)). IsPaddingSum plan o × IsSome o)
     (sym (at ∙ ap (λ xs. slice_get xs 0) (one_sum sum long))) ((none, is), refl)

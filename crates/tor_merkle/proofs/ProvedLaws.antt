@@ -1,4 +1,4 @@
--- The laws of `src/laws.rt`, for proofs that cite them, and lemmas on rounding up, on powers of two and on lists by index.
+-- The laws of `src/laws.rt`, and lemmas on rounding up, powers of two and lists by index, for proofs that cite them.
 use Rattle.tor_merkle.proofs.Names.{◌≡◌, ◌+◌, ◌-◌, ◌*◌, ◌^◌, ◌<◌, ◌≤◌, ℕ, List, [], ◌∷◌, ◌++◌, length, map, arith, sym}
 use Rattle.tor_merkle.proofs.Names.{ap, ap₂, ◌∙◌, pow-add, mul_assoc, mul_comm, inl, inr, pow-lt, cases_lt, cond-true}
 use Rattle.tor_merkle.proofs.Names.{cond-false, eqb-true, lt-ltb, le-ltb, lt-leb, div_ceil, flat_map, range_with_len}

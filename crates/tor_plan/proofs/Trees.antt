@@ -29,6 +29,9 @@ log2_bounds (suc n) =
       | inr le ↦ rw (le-leb (2 ^ suc k) (suc (suc n)) le) (le, omega (arith, bounds.1, pow-suc 2 (suc k)))
     ]
 
+grown : (i j : ℕ) → i ≤ j → 2 ^ i ≤ 2 ^ j
+grown i j le = pow-le-pow_right {n = 2} (omega arith) {i = i} {j = j} le
+
 -- no other number has both bounds
 pub log2_is : (n k : ℕ) → 0 < n → 2 ^ k ≤ n → n < 2 * 2 ^ k → k ≡ log2 n
 log2_is zero k some low high = absurd (omega arith)
@@ -37,8 +40,8 @@ log2_is (suc n) k some low high =
     let k_next = pow-suc 2 k in
     elim (cases_order k (log2 (suc n))) [
       | inl same ↦ same
-      | inr (inl less) ↦ absurd (omega (arith, bounds.0, high, pow-le-pow_right {n = 2} (omega arith) {i = suc k} {j = log2 (suc n)} (omega arith), k_next))
-      | inr (inr more) ↦ absurd (omega (arith, bounds.1, low, pow-le-pow_right {n = 2} (omega arith) {i = suc (log2 (suc n))} {j = k} (omega arith)))
+      | inr (inl less) ↦ absurd (omega (arith, bounds.0, high, grown (suc k) (log2 (suc n)) (omega arith), k_next))
+      | inr (inr more) ↦ absurd (omega (arith, bounds.1, low, grown (suc (log2 (suc n))) k (omega arith)))
     ]
 
 -- ---- the trees from a file on

@@ -20,8 +20,8 @@ ghost use Rattle.tor_v1.specs.Entries.{v1_entries};
 ghost use Rattle.tor_v1.specs.Piece.{piece_sums};
 ghost use Rattle.tor_v1.specs.declared.entry.Entry.{Entry};
 
-/// The files of a list are cut as their entries are. Those have the lengths of the files and may have a tail, and a plan
-/// can be made of them.
+/// The files of a list are cut as their entries are. Those have the lengths of the files and may have a tail, and a
+/// plan can be made of them.
 pub fn files_are_cut_as_entries()
     ensures lengths { (kind : Kind) (tail : Bool) (piece_length : ℕ) (files : List (List (List ℕ) × ℕ)) →
         lengths_of_entries (v1_entries (layout_of_kind kind tail) piece_length files) ≡ lengths_of files }

@@ -50,8 +50,8 @@ impl Plan {
     ghost use Rattle.tor_plan.specs.PlanFacts.{plan_of_entries, IsPlan, IsPlanPieceLength, IsSpan};
     ghost use Rattle.tor_plan.specs.steps.Whole.{plan_of_whole, AreWhole};
 
-    /// The plan of the entries of a list of files, padding among them in a hybrid torrent. Its units have `span` pieces,
-    /// fewer at an end: of one file each, or of the joined files in V1.
+    /// The plan of the entries of a list of files, in a hybrid torrent padding among them. Its units have `span`
+    /// pieces, fewer at an end: of one file each, or of the joined files in V1.
     pub fn new(
         alloc: Global,
         list: &FileList,

@@ -9,7 +9,7 @@ use Rattle.tor_recheck.proofs.Names.{length-take, list_all_at, get_or-map-range_
 use Rattle.tor_recheck.proofs.Names.{div_ceil, bytes_eq, run_at, joined_span, joined_spans, no_span, tree_spans}
 use Rattle.tor_recheck.proofs.Names.{FileSpan, bytes_in, file_bytes, is_whole, joined_bytes, zeros, file_pieces}
 use Rattle.tor_recheck.proofs.Names.{is_merkle_piece, merkle_hash, merkle_pieces, told_hash, pieces_in, FileView, Entry}
-use Rattle.tor_recheck.proofs.EntryForms.{entry_cases}
+use Rattle.tor_recheck.proofs.Names.{entry_cases}
 use Rattle.tor_recheck.proofs.FoundBytes.{Found, length-file, run-file, whole_file}
 use Rattle.tor_recheck.proofs.MerklePieces.{length_of}
 use Rattle.tor_recheck.proofs.SpanBounds.{each_more}

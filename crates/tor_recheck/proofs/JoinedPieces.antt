@@ -4,7 +4,8 @@ use Rattle.tor_recheck.proofs.Names.{arith, refl, ap, ap₂, ◌∙◌, sym, sub
 use Rattle.tor_recheck.proofs.Names.{cond-false, cond-true, le-ltb, lt-ltb, drop_all, replicate-append-replicate}
 use Rattle.tor_recheck.proofs.Names.{take_all, flat_map, run_at, after_part, after_zeros, empty_unit, joined_entry_unit}
 use Rattle.tor_recheck.proofs.Names.{shared, unit_within, PlanUnit, file_bytes, joined_bytes, zeros, Entry}
-use Rattle.tor_recheck.proofs.EntryForms.{Label, padding, file, entry_cases, first_from, others_from}
+use Rattle.tor_recheck.proofs.Names.{Label, padding, file, entry_cases}
+use Rattle.tor_recheck.proofs.FromIndex.{first_from, others_from}
 use Rattle.tor_recheck.proofs.FoundBytes.{Found, HaveBytes, length-file, no_bytes, part_bytes, there, there_append}
 use Rattle.tor_recheck.proofs.FoundBytes.{unit_bytes}
 use Rattle.tor_recheck.proofs.RangeBytes.{between, between-append, between-file, between-zeros, length-zeros}

@@ -1,7 +1,6 @@
 -- Two lists judged element by element, and values for numbers below another.
 use Rattle.tor_recheck.proofs.Names.{◌≡◌, ℕ, zero, suc, ◌<◌, Bool, true, false, ◌&&◌, List, [], ◌∷◌, ◌++◌, length, map}
-use Rattle.tor_recheck.proofs.Names.{get_or, arith, refl, ap, ◌∙◌, false≢true, true≢false, fill_by_all}
-use Rattle.tor_recheck.proofs.Names.{get_or-map-range_with_len, length-map-range_with_len, range_with_len}
+use Rattle.tor_recheck.proofs.Names.{get_or, arith, refl, ap, false≢true, true≢false}
 
 abbrev pub judged : {X Y : Type 0} → (X → Y → Bool) → List X → List Y → List Bool
 judged f [] ys = []
@@ -28,12 +27,6 @@ module _ {X Y : Type 0} (f : X → Y → Bool) where
   get_or-judged (one ∷ xs) (other ∷ ys) zero x y same lt = refl
   get_or-judged (one ∷ xs) (other ∷ ys) (suc k) x y same lt =
       get_or-judged xs ys k x y (omega (arith, same)) (omega (arith, lt))
-
-pub same_values : {X : Type 0} (f g : ℕ → X) (n : ℕ) (d : X) → ((k : ℕ) → k < n → f k ≡ g k)
-    → map f (range_with_len 0 n) ≡ map g (range_with_len 0 n)
-same_values f g n d same =
-    fill_by_all g (map f (range_with_len 0 n)) n d (length-map-range_with_len f 0 n)
-    (λ k lt. get_or-map-range_with_len f 0 n k k d lt (omega arith) ∙ same k lt)
 
 -- the second test is only asked where the first holds
 pub and_same : (a b c d : Bool) → a ≡ c → (a ≡ true → b ≡ d) → (a && b) ≡ (c && d)

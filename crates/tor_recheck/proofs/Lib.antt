@@ -7,7 +7,7 @@ pub mod Counted
 pub mod PieceRows
 pub mod FoundBytes
 pub mod RangeBytes
-pub mod EntryForms
+pub mod FromIndex
 pub mod JoinedPieces
 pub mod Judged
 pub mod MerklePieces

@@ -1,10 +1,11 @@
 -- The padding behind the last filled file of a v1 side, where it is as it is to be.
-use Rattle.tor_recheck.proofs.Names.{◌≡◌, ℕ, ◌+◌, ◌-◌, ◌%◌, eqb, Bool, true, false, not, ◌||◌, List, [], ◌∷◌, ◌++◌}
+use Rattle.tor_recheck.proofs.Names.{◌≡◌, ℕ, ◌+◌, ◌-◌, eqb, Bool, true, false, not, ◌||◌, List, [], ◌∷◌, ◌++◌}
 use Rattle.tor_recheck.proofs.Names.{Option, None, Some, arith, refl, ap, ◌∙◌, sym, inl, inr, ◌⊎◌, reverse}
-use Rattle.tor_recheck.proofs.Names.{append_assoc, unwrap_or, find, option_map, mod_self, zero-mod, cond-false}
+use Rattle.tor_recheck.proofs.Names.{append_assoc, unwrap_or, find, option_map, cond-false}
 use Rattle.tor_recheck.proofs.Names.{cond-true, eqb-true, not-false, or_parts, reverse-append, IsPermutation-reverse}
 use Rattle.tor_recheck.proofs.Names.{list_any-IsPermutation, sum_by-IsPermutation, sum_by-cons, joined_size, ListedFile}
 use Rattle.tor_recheck.proofs.Names.{has_wrong_tail, is_filled, last_size, size_before, tail_size, padding_length}
+use Rattle.tor_recheck.proofs.Names.{no_padding}
 use Rattle.tor_recheck.proofs.ListedFiles.{size_of}
 use Rattle.tor_recheck.proofs.ListedGaps.{has_filled}
 
@@ -69,12 +70,6 @@ one_of n m right = by (eqb n 0) refl (not-false (eqb n 0 || eqb n m) right) wher
   by true is some = inl (eqb-true n 0 is)
   by false is some = inr (eqb-true n m some)
 
-nothing_lacks : (p : ℕ) → padding_length p 0 ≡ 0
-nothing_lacks p =
-    let lack : (p - 0 % p) % p ≡ 0 =
-    ap (λ r. (p - r) % p) (zero-mod p) ∙ ap (λ n. n % p) (let e : p - 0 ≡ p = omega arith in e) ∙ mod_self p in
-    omega (arith, lack)
-
 module _ (p : ℕ) where
   -- without a filled file there is no byte
   pub none_at_all : (files : List ListedFile) → has_wrong_tail p files ≡ false → has_filled files ≡ false
@@ -84,7 +79,7 @@ module _ (p : ℕ) where
       let tail : tail_size files ≡ joined_size files =
       size_before_none (reverse files) back ∙ joined_reversed files in
       let last : last_size files ≡ 0 = ap size_found (found_none (reverse files) back) in
-      let lack : padding_length p (last_size files) ≡ 0 = ap (padding_length p) last ∙ nothing_lacks p in
+      let lack : padding_length p (last_size files) ≡ 0 = ap (padding_length p) last ∙ no_padding p in
       elim (one_of (tail_size files) (padding_length p (last_size files)) right) [
         | inl e ↦ sym tail ∙ e
         | inr e ↦ sym tail ∙ e ∙ lack

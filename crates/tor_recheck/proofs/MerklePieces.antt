@@ -1,24 +1,16 @@
 -- The pieces of a v2 side, and units of files that are cut each by itself.
-use Rattle.tor_recheck.proofs.Names.{◌≡◌, ℕ, ◌+◌, ◌-◌, ◌*◌, ◌<◌, ◌≤◌, Bool, false, ◌&&◌, leb, min, List, [], ◌∷◌, ◌++◌}
+use Rattle.tor_recheck.proofs.Names.{◌≡◌, ℕ, ◌+◌, ◌-◌, ◌*◌, ◌<◌, Bool, false, ◌&&◌, leb, min, List, [], ◌∷◌, ◌++◌}
 use Rattle.tor_recheck.proofs.Names.{length, map, take, drop, get_or, arith, refl, ap, ap₂, ◌∙◌, sym, length-append}
-use Rattle.tor_recheck.proofs.Names.{length-drop, mul-le-mul_right, leb-true, div_ceil_times, drop-drop}
+use Rattle.tor_recheck.proofs.Names.{length-drop, leb-true, drop-drop}
 use Rattle.tor_recheck.proofs.Names.{length-map-range_with_len, div_ceil, flat_map, range_with_len, bytes_eq, run_at}
 use Rattle.tor_recheck.proofs.Names.{lengths_of_entries, padding_before_next, separate_entry_units, file_unit}
 use Rattle.tor_recheck.proofs.Names.{units_of_file, PlanUnit, is_there, hashes_of_file, no_file, piece_root}
 use Rattle.tor_recheck.proofs.Names.{told_hashes, bytes_in, file_bytes, is_whole, file_pieces, is_merkle_piece}
 use Rattle.tor_recheck.proofs.Names.{merkle_hash, merkle_pieces, told_hash, FileView, View, Entry}
-use Rattle.tor_recheck.proofs.EntryForms.{Label, file, entry_cases, first_from, first_of, others_from}
+use Rattle.tor_recheck.proofs.Names.{Label, file, entry_cases, below_from_ceil, range_same}
+use Rattle.tor_recheck.proofs.FromIndex.{first_from, first_of, others_from}
 use Rattle.tor_recheck.proofs.FoundBytes.{and_true, bytes_there, file_is_there, last_byte, run-file, whole_file}
-use Rattle.tor_recheck.proofs.Judged.{and_same, get_or-judged, judged, judged-append, judged-map, same_values}
-
--- run k begins below n
-pub begins_within : (n p k : ℕ) → 0 < p → k < div_ceil n p → k * p < n
-begins_within n p k some lt = by (div_ceil n p) (div_ceil_times n p some) lt where
-  by : (q : ℕ) → (n ≤ q * p) × (q * p < n + p) → k < q → k * p < n
-  by q bounds less =
-      let next : (k + 1) * p ≡ k * p + p = omega arith in
-      let le : (k + 1) * p ≤ q * p = mul-le-mul_right p (omega (arith, less)) in
-      omega (arith, next, le, bounds.1)
+use Rattle.tor_recheck.proofs.Judged.{and_same, get_or-judged, judged, judged-append, judged-map}
 
 abbrev pub length_of : FileView → ℕ
 length_of told = told.file.length
@@ -57,8 +49,8 @@ module _ (view : View) (contents : List (List ℕ)) (some : 0 < view.piece_lengt
   each_file index told tail here =
       let m = length_of told in
       judged-map has_hash (file_unit p index m tail) (told_hash p told) (range_with_len 0 (div_ceil m p))
-      ∙ same_values _ (is_merkle_piece p told (get_or contents index [])) (div_ceil m p) false
-      (λ k lt. each_piece index told tail k here (begins_within m p k some lt))
+      ∙ range_same _ (is_merkle_piece p told (get_or contents index [])) (div_ceil m p)
+      (λ k lt. each_piece index told tail k here (below_from_ceil m p k some lt))
 
   -- these units are judged by the hashes of these files, of which the first has this index
   record AreJudged (index : ℕ) (units : List PlanUnit) (files : List FileView) : Type 0 where

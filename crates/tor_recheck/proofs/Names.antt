@@ -54,12 +54,13 @@ pub use Rattle.tor_sums.specs.declared.errors.EngineError.{EngineError}
 pub use Rattle.tor_sums.specs.declared.errors.EngineError.TheVariants.{Changed, Missing, Read, Resources}
 pub use Rattle.tor_sums.specs.declared.errors.EngineError.TheVariants.{StreamTooLong}
 pub use Rattle.tor_engine.specs.declared.piece_hash.PieceHash.{PieceHash}
-pub use Rattle.tor_merkle.proofs.ProvedLaws.{piece_length_bounds}
+pub use Rattle.tor_merkle.proofs.ProvedLaws.{below_from_ceil, ceil_few, piece_length_bounds, range_same}
 pub use Rattle.tor_merkle.specs.Block.{leaves, run_at}
 pub use Rattle.tor_merkle.specs.Layer.{is_piece_length, piece_level, pieces_root}
 pub use Rattle.tor_merkle.specs.Stack.{padded_subtree}
 pub use Rattle.tor_merkle.specs.declared.TheConstants.{MAX_LENGTH}
-pub use Rattle.tor_plan.proofs.ProvedLaws.{aligned_pieces_are_joined, units_are_cut_into_pieces}
+pub use Rattle.tor_plan.proofs.ProvedLaws.{Label, aligned_pieces_are_joined, entry_cases, file, files_within, padding}
+pub use Rattle.tor_plan.proofs.ProvedLaws.{units_are_cut_into_pieces}
 pub use Rattle.tor_plan.specs.Content.{part_content, unit_content}
 pub use Rattle.tor_plan.specs.Entries.{after_part, after_zeros, empty_unit, entries_length, entry_units}
 pub use Rattle.tor_plan.specs.Entries.{file_unit, joined_entry_unit, lengths_of_entries, shared, units_of_file}
@@ -115,6 +116,7 @@ pub use Rattle.tor_tree.specs.declared.kinds.Kind.{Kind}
 pub use Rattle.tor_tree.specs.declared.kinds.Kind.TheVariants.{Hybrid, V1, V2}
 pub use Rattle.tor_tree.specs.declared.lists.TheConstants.{MAX_TOTAL, ROUNDING}
 pub use Rattle.tor_tree.specs.declared.tree_file.TreeFile.{TreeFile}
+pub use Rattle.tor_v1.proofs.ProvedLaws.{no_padding}
 pub use Rattle.tor_v1.specs.Entries.{file_entry, padding_length}
 pub use Rattle.tor_v1.specs.Piece.{IsV1PieceLength, max_piece_length, piece_sums}
 unfoldable pub use Rattle.tor_v1.specs.Piece.{zeros}

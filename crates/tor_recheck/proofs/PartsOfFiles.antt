@@ -8,8 +8,7 @@ use Rattle.tor_recheck.proofs.Names.{joined_entry_unit, joined_entry_units, leng
 use Rattle.tor_recheck.proofs.Names.{separate_entry_units, shared, unit_within, file_unit, units_of_file, PlanUnit}
 use Rattle.tor_recheck.proofs.Names.{entries_to_cut, IsCut, pieces_of, file_spans, has_bytes_of, joined_span}
 use Rattle.tor_recheck.proofs.Names.{joined_spans, no_span, tree_spans, pieces_in, FileView, View, has_v1}
-use Rattle.tor_recheck.proofs.Names.{has_v2, Kind, V1, V2, Hybrid, Entry}
-use Rattle.tor_recheck.proofs.EntryForms.{Label, entry_cases, file}
+use Rattle.tor_recheck.proofs.Names.{has_v2, Kind, V1, V2, Hybrid, Entry, Label, entry_cases, file}
 use Rattle.tor_recheck.proofs.FilesThere.{later_spans}
 use Rattle.tor_recheck.proofs.MerklePieces.{length_of}
 use Rattle.tor_recheck.proofs.PieceSides.{cut_each, other_side, same_lengths, some_piece}

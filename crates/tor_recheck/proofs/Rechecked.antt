@@ -9,7 +9,7 @@ use Rattle.tor_recheck.proofs.Names.{units_are_cut_into_pieces, IsCut, entries_t
 use Rattle.tor_recheck.proofs.Names.{piece_root, pieces_of, right_pieces, root_of_parts, told_hashes, all_judged}
 use Rattle.tor_recheck.proofs.Names.{is_found, is_told, judged, merkle_hash, verified_pieces, FileView, View, has_v1}
 use Rattle.tor_recheck.proofs.Names.{has_v2, piece_sums}
-use Rattle.tor_recheck.proofs.EntryForms.{first_of}
+use Rattle.tor_recheck.proofs.FromIndex.{first_of}
 use Rattle.tor_recheck.proofs.MerklePieces.{length_of}
 use Rattle.tor_recheck.proofs.PieceSides.{same_lengths, some_piece}
 use Rattle.tor_recheck.proofs.ProvedLaws.{pieces_are_verified_by_units}

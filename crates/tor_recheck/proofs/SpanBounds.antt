@@ -4,12 +4,12 @@ use Rattle.tor_recheck.proofs.Names.{◌∷◌, get_or, Option, None, Some, arit
 use Rattle.tor_recheck.proofs.Names.{cases_Bool, cases_lt, cond-false, cond-true, div_ceil_times, le-ltb, lt-ltb}
 use Rattle.tor_recheck.proofs.Names.{nat_lt, mul-le-mul_right, sum_by-cons, div_ceil, entries_length, file_found}
 use Rattle.tor_recheck.proofs.Names.{file_spans, joined_span, joined_spans, no_span, tree_spans, AreThere, FileSpan}
-use Rattle.tor_recheck.proofs.Names.{IsCut, Whole, pieces_in, FileView, View, has_v2, Entry}
-use Rattle.tor_recheck.proofs.EntryForms.{entry_cases, file, padding}
+use Rattle.tor_recheck.proofs.Names.{IsCut, Whole, pieces_in, FileView, View, has_v2, Entry, entry_cases, file, padding}
+use Rattle.tor_recheck.proofs.Names.{ceil_few}
 use Rattle.tor_recheck.proofs.FileStates.{whole_is}
 use Rattle.tor_recheck.proofs.MerklePieces.{length_of}
 use Rattle.tor_recheck.proofs.PieceSides.{some_piece}
-use Rattle.tor_recheck.proofs.SpanSteps.{count_of_files, few_runs}
+use Rattle.tor_recheck.proofs.SpanSteps.{count_of_files}
 
 -- what holds of the first and of each other
 pub each_more : (P : FileSpan → Type 0) (span : FileSpan) (spans : List FileSpan) → P span
@@ -43,7 +43,7 @@ empty_in_tree p first some [] i = λ empty. omega arith
 empty_in_tree p first some (told ∷ files) i =
     let after = first + pieces_in p (length_of told) in
     each_more HasNone (tree_span p first (length_of told)) (tree_spans p after files)
-    (λ empty. omega (arith, few_runs (length_of told) p some, empty))
+    (λ empty. omega (arith, ceil_few (length_of told) p some, empty))
     (λ k. empty_in_tree p after some files k) i
 
 empty_span : (p start n : ℕ) → HasNone (joined_span p start n)

@@ -3,8 +3,7 @@ use Rattle.tor_recheck.proofs.Names.{◌≡◌, ◌↔◌, ℕ, ◌+◌, ◌*◌
 use Rattle.tor_recheck.proofs.Names.{arith, refl, sym, ◌∙◌, inl, inr, and_from, and_left, and_parts, and_right}
 use Rattle.tor_recheck.proofs.Names.{cases_lt, cond-false, cond-true, le-leb, le-ltb, leb-true, lt-leb, lt-ltb}
 use Rattle.tor_recheck.proofs.Names.{ltb-true, false≢true, div_below, div_ceil_times, le-div, mul-le-mul_right}
-use Rattle.tor_recheck.proofs.Names.{div_ceil, shared, joined_span, no_span, FileSpan}
-use Rattle.tor_recheck.proofs.MerklePieces.{begins_within}
+use Rattle.tor_recheck.proofs.Names.{div_ceil, shared, joined_span, no_span, FileSpan, below_from_ceil}
 
 -- ---- tests
 
@@ -44,7 +43,7 @@ module _ (p k : ℕ) (some : 0 < p) where
   turned = omega arith
 
   begun : (n : ℕ) → k < div_ceil n p → k * p < n
-  begun n lt = begins_within n p k some lt
+  begun n lt = below_from_ceil n p k some lt
 
   counted : (n : ℕ) → k * p < n → k < div_ceil n p
   counted n lt = by (div_ceil n p) (div_ceil_times n p some) where

@@ -1,12 +1,11 @@
 -- The spans of files: one more, how many there are, and that no number in them is too large.
-use Rattle.tor_recheck.proofs.Names.{◌≡◌, ℕ, ◌+◌, ◌*◌, ◌<◌, ◌≤◌, false, List, [], ◌∷◌, ◌++◌, length, drop, get_or, map}
+use Rattle.tor_recheck.proofs.Names.{◌≡◌, ℕ, ◌+◌, ◌<◌, ◌≤◌, false, List, [], ◌∷◌, ◌++◌, length, drop, get_or, map}
 use Rattle.tor_recheck.proofs.Names.{arith, refl, ap, ◌∙◌, sym, subst, inl, inr, append_assoc, sum, sum_by, cases_Bool}
-use Rattle.tor_recheck.proofs.Names.{cases_lt, cond-false, cond-true, div_ceil_times, drop_more, length-map, tree_span}
-use Rattle.tor_recheck.proofs.Names.{mul-le-mul_right, sum_by-cons, div_ceil, entries_length, lengths_of_entries}
+use Rattle.tor_recheck.proofs.Names.{cond-false, cond-true, drop_more, length-map, tree_span}
+use Rattle.tor_recheck.proofs.Names.{sum_by-cons, entries_length, lengths_of_entries}
 use Rattle.tor_recheck.proofs.Names.{entries_to_cut, IsCut, FileSpan, file_spans, joined_spans, tree_spans}
 use Rattle.tor_recheck.proofs.Names.{span_of_entry, pieces_in, FileView, View, has_v1, has_v2, MAX_TOTAL, Entry, suc}
-use Rattle.tor_recheck.proofs.Names.{true}
-use Rattle.tor_recheck.proofs.EntryForms.{entry_cases, file, padding}
+use Rattle.tor_recheck.proofs.Names.{entry_cases, file, files_within, ceil_few}
 use Rattle.tor_recheck.proofs.MerklePieces.{length_of}
 use Rattle.tor_recheck.proofs.PieceSides.{other_side, same_lengths, some_piece}
 
@@ -104,40 +103,15 @@ spans_are_counted view cut =
 -- ---- they are small
 
 -- no more pieces than bytes
-pub few_runs : (n p : ℕ) → 0 < p → div_ceil n p ≤ n
-few_runs n p some = by (div_ceil n p) (div_ceil_times n p some) where
-  by : (q : ℕ) → (n ≤ q * p) × (q * p < n + p) → q ≤ n
-  by q bounds = elim (cases_lt n q) [
-    | inl more ↦
-        let next : (n + 1) * p ≡ n * p + p = omega arith in
-        let le : (n + 1) * p ≤ q * p = mul-le-mul_right p (omega (arith, more)) in
-        let one : 1 * n ≤ p * n = mul-le-mul_right n (omega (arith, some)) in
-        let same : p * n ≡ n * p = omega arith in
-        absurd (omega (arith, next, le, one, same, bounds.1))
-    | inr few ↦ few
-  ]
-
 few_pieces : (p : ℕ) → 0 < p → (files : List FileView) → count_of_files p files ≤ sum (map length_of files)
 few_pieces p some [] = omega arith
 few_pieces p some (told ∷ files) =
     let pieces = sum_by-cons (λ (one : FileView). pieces_in p one.file.length) told files in
     let bytes = sum_by-cons (λ (m : ℕ). m) (length_of told) (map length_of files) in
     both (pieces_in p (length_of told)) (length_of told) (count_of_files p files) (sum (map length_of files))
-    _ _ pieces bytes (few_runs (length_of told) p some) (few_pieces p some files) where
+    _ _ pieces bytes (ceil_few (length_of told) p some) (few_pieces p some files) where
       both : (a b c d x y : ℕ) → x ≡ a + c → y ≡ b + d → a ≤ b → c ≤ d → x ≤ y
       both a b c d x y one other le more = omega (arith, one, other, le, more)
-
-bytes_of_files : (entries : List Entry) → sum (lengths_of_entries entries) ≤ entries_length entries
-bytes_of_files [] = omega arith
-bytes_of_files (entry ∷ entries) =
-    entry_cases (λ e. sum (lengths_of_entries (e ∷ entries)) ≤ entries_length (e ∷ entries))
-    (λ label m.
-    let all = sum_by-cons (λ (e : Entry). e.length) (padding label m) entries in
-    omega (arith, all, bytes_of_files entries))
-    (λ label m.
-    let all = sum_by-cons (λ (e : Entry). e.length) (file label m) entries in
-    let files = sum_by-cons (λ (n : ℕ). n) m (lengths_of_entries entries) in
-    omega (arith, all, files, bytes_of_files entries)) entry
 
 pub few_of_cut : (view : View) → IsCut view → count_of_files view.piece_length view.files ≤ MAX_TOTAL
 few_of_cut view cut =
@@ -146,7 +120,7 @@ few_of_cut view cut =
       arith,
       few_pieces view.piece_length (some_piece view.kind view.piece_length cut.pieces) view.files,
       ap sum (same_lengths view cut),
-      bytes_of_files entries,
+      files_within entries,
       cut.entries.total,
     )
 

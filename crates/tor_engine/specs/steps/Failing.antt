@@ -1,6 +1,6 @@
 -- The first of numbered units that fails. Only private clauses cite these.
-use Rattle.std.specs.Prelude.{◌≡◌, ◌++◌, ℕ, Bool, true, false, nat_le, List, Option, None, Result, IfErr, IfOk, MatchResult}
-use Rattle.std.specs.Prelude.{Some, option_map, Ok, Err, Vec, if◌then◌else◌}
+use Rattle.std.specs.Prelude.{◌≡◌, ◌++◌, ℕ, Bool, true, false, nat_le, List, Option, None, Result, IfErr, IfOk}
+use Rattle.std.specs.Prelude.{MatchResult, Some, option_map, Ok, Err, Vec, if◌then◌else◌}
 use Rattle.std.specs.declared.alloc.Global.{Global}
 use Rattle.std.specs.List.{enumerate_from}
 use Rattle.tor_plan.specs.declared.units.PlanUnit.{PlanUnit}

@@ -87,8 +87,8 @@ pub record IsOfGiven {A : Type 0} (number_in : A → ℕ) (hash_in : A → List 
 -- what one worker did from one seat: at an error the seat failed that unit alone
 pub record TakesUnits {F A : Type 0} (number_in : A → ℕ) (hash_in : A → List ℕ) (sums_up : PlanUnit → A → Type 0)
     (is_steady : SourceFacts F → Type 0) (fault : SourceFacts F → PlanUnit → Option (EngineError F))
-    (may_be : EngineError F → Type 0) (units : List PlanUnit) (old new : Desk) (result : Result (Share A) (UnitFailure F))
-    : Type 0 where
+    (may_be : EngineError F → Type 0) (units : List PlanUnit) (old new : Desk)
+    (result : Result (Share A) (UnitFailure F)) : Type 0 where
   pub news : List GivenUnit
   pub has : HasGiven is_steady fault units old new news
   pub took : IfOk result (λ share. (new.done ≡ true) × (new.failed ≡ [])

@@ -35,7 +35,8 @@ pub returns-in-Err : goal.returns-in-Err
 returns-in-Err g c = record {
   summed = _;
   steady = λ facts steady.
-      stops _ c.of.result c.of.ensures (IsFailure (first_failure (g.W.UnitWork.fault c.args.work.now facts) c.args.first c.args.units.now)) tt
+      stops _ c.of.result c.of.ensures
+      (IsFailure (first_failure (g.W.UnitWork.fault c.args.work.now facts) c.args.first c.args.units.now)) tt
       (c.in-Err.ensures.fault facts steady)
       (fails_here (g.W.UnitWork.fault c.args.work.now facts) c.args.first c.args.units.now c.units.index
       _ c.index-units-index.result c.units-test.true (sym c.index-units-index.is)
