@@ -13,25 +13,12 @@ use Rattle.tor_engine.specs.Rows.{hash_of_short, hashes_of_file}
 use Rattle.tor_merkle.specs.Layer.{IsPieceLength, piece_layer, piece_level, piece_roots, pieces_root, root_of}
 use Rattle.tor_merkle.specs.Stack.{padded_root}
 use Rattle.tor_merkle.specs.declared.TheConstants.{MAX_LENGTH}
-use Rattle.tor_merkle.proofs.ProvedLaws.{count_of_piece_roots, few_piece_roots}
+use Rattle.tor_merkle.proofs.ProvedLaws.{ceil_is, count_of_piece_roots, few_piece_roots}
 use Rattle.tor_merkle.proofs.ProvedLaws.{piece_length_bounds, root_of_long_content}
 use Rattle.tor_parts.specs.Joining.{layer_over, layers_over, pieces_of_lengths, root_over, roots_over}
 
 some_length : (p : ℕ) → IsPieceLength p → 0 < p
 some_length p allowed = omega (arith, ((piece_length_bounds p).0 allowed).1)
-
-one_ceil : (n p : ℕ) → 0 < n → n ≤ p → div_ceil n p ≡ 1
-one_ceil n p some le =
-    let bounds = div_ceil_times n p (omega (arith, some, le)) in
-    let low : 0 < div_ceil n p = lt_of_mul-lt-mul_right p (omega (arith, some, bounds.0)) in
-    let high : div_ceil n p < 2 = lt_of_mul-lt-mul_right p (omega (arith, le, bounds.1)) in
-    omega (arith, low, high)
-
-pub no_ceil : (p : ℕ) → 0 < p → div_ceil 0 p ≡ 0
-no_ceil p some =
-    let bounds = div_ceil_times 0 p some in
-    let high : div_ceil 0 p < 1 = lt_of_mul-lt-mul_right p (omega (arith, bounds.1)) in
-    omega (arith, high)
 
 module _ (p : ℕ) (allowed : IsPieceLength p) where
   -- ---- one file
@@ -45,8 +32,8 @@ module _ (p : ℕ) (allowed : IsPieceLength p) where
       ap (λ b. cond b (hash_of_short content) (piece_roots content p)) (lt-leb (length content) p long)
 
   short_count : (content : List ℕ) → length content ≤ p → length (hash_of_short content) ≡ div_ceil (length content) p
-  short_count [] short = sym (no_ceil p (some_length p allowed))
-  short_count (byte ∷ bytes) short = sym (one_ceil (length (byte ∷ bytes)) p (omega arith) short)
+  short_count [] short = sym (ceil_is 0 p 0 (omega arith) (omega (arith, some_length p allowed)))
+  short_count (byte ∷ bytes) short = sym (ceil_is (length (byte ∷ bytes)) p 1 (omega (arith, short)) (omega arith))
 
   counted : (content : List ℕ) → length (hashes_of_file p content) ≡ div_ceil (length content) p
   counted content = elim (cases_lt p (length content)) [

@@ -11,7 +11,7 @@ use Rattle.std.specs.List.{AllZip, slice_get}
 use Rattle.tor_tree.specs.FileList.{lengths_of}
 use Rattle.tor_tree.specs.TidyTree.{HasItsRoot}
 use Rattle.tor_parts.specs.Joining.{layers_over, pieces_of_lengths, root_over, roots_over}
-use Rattle.tor_parts.proofs.FileTrees.{no_ceil}
+use Rattle.tor_merkle.proofs.ProvedLaws.{ceil_is}
 
 module _ (p : ℕ) (pos : 0 < p) where
   short_root : (m : ℕ) (own : List (List ℕ)) → length own ≡ div_ceil m p
@@ -26,7 +26,8 @@ module _ (p : ℕ) (pos : 0 < p) where
       some_bytes (inl some) = some
       some_bytes (inr none) =
           let zero_bytes : m ≡ 0 = omega (arith, none) in
-          absurd (omega (arith, counted, ap (λ n. div_ceil n p) zero_bytes, no_ceil p pos))
+          let none_there = ceil_is 0 p 0 (omega arith) (omega (arith, pos)) in
+          absurd (omega (arith, counted, ap (λ n. div_ceil n p) zero_bytes, none_there))
 
   one_root : (m : ℕ) (own : List (List ℕ)) → length own ≡ div_ceil m p
       → (is_some (root_over p m own) ≡ true) ↔ (0 < m)
