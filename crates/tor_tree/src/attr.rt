@@ -1,7 +1,9 @@
 //! The letters of a file that a torrent is made with (BEP 47, "attr").
-ghost use Rattle.std.specs.Prelude.{◌≡◌};
+ghost use Rattle.std.specs.Prelude.{◌≡◌, IfOk, map};
 ghost use Rattle.std.specs.Option.{option_copied};
-ghost use Rattle.tor_tree.specs.Letters.{letters};
+ghost use Rattle.tor_tree.specs.Letters.{letters, no_letters};
+
+use std::alloc::{AllocError, Global};
 
 /// Which letters a file is given (BEP 47, "attr").
 #[derive(Clone, Copy, Debug, PartialEq, Eq, PartialOrd, Ord)]
@@ -18,6 +20,17 @@ impl Attr {
         exec: false,
         hidden: false,
     };
+
+    /// No letter for each of some items.
+    pub fn none_each<T>(alloc: Global, items: &[T]) -> Result<Vec<Attr>, AllocError>
+        ensures { IfOk result (λ attrs. attrs.items ≡ map (λ item. no_letters) items.now) }
+    {
+        let mut attrs = Vec::with_capacity(alloc, items.len())?;
+        for _item in items {
+            attrs.push(Attr::NONE)?;
+        }
+        Ok(attrs)
+    }
 
     /// The letters, `h` before `x`; None if there is none.
     pub fn letters(self) -> Option<&'static [u8]>

@@ -47,7 +47,7 @@ pub use kinds::Kind;
 pub use lists::{FileList, ListError, MAX_TOTAL, ROUNDING};
 pub use names::{Name, NameError, copy_names};
 pub use path_lists::PathList;
-pub use paths::{FilePath, MAX_NAMES};
+pub use paths::{FilePath, MAX_NAMES, copy_paths};
 pub use properties::{has_attr, letters_of};
 pub use read_tree::from_item;
 pub use tree_file::{TreeFault, TreeFile};

@@ -1,5 +1,5 @@
 //! Lists of files: each path once, in order, with the file's length and letters.
-ghost use Rattle.std.specs.Prelude.{◌≡◌, ◌⊎◌, IfOk, MatchOption, ◌<◌, ◌≤◌, ◌+◌, ◌^◌, map};
+ghost use Rattle.std.specs.Prelude.{◌≡◌, ◌⊎◌, IfOk, MatchOption, ◌<◌, ◌≤◌, ◌+◌, map};
 ghost use Rattle.std.specs.Int.{next_multiple_of};
 ghost use Rattle.tor_tree.specs.FileList.{lengths_of, lengths_too_large};
 ghost use Rattle.tor_tree.specs.Letters.{no_letters};
@@ -113,7 +113,7 @@ impl FileList {
         ensures refused { IfErr result (λ fault.
             (lengths_fault (lengths_of files.items) ≡ Some fault) ⊎ (fault ≡ Memory)) }
     {
-        let attrs = none_each(alloc, &files)?;
+        let attrs = Attr::none_each(alloc, &files)?;
         FileList::of_sorted(files, attrs)
     }
 
@@ -170,17 +170,6 @@ impl FileList {
     {
         self.attrs[i]
     }
-}
-
-/// No letters for each file.
-fn none_each(alloc: Global, files: &[(FilePath, u64)]) -> Result<Vec<Attr>, AllocError>
-    ensures { IfOk result (λ attrs. attrs.items ≡ map (λ file. no_letters) files.now) }
-{
-    let mut attrs = Vec::with_capacity(alloc, files.len())?;
-    for _file in files {
-        attrs.push(Attr::NONE)?;
-    }
-    Ok(attrs)
 }
 
 /// Whether a file is too long, or all of them together are.

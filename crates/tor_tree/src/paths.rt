@@ -4,6 +4,7 @@ ghost use Rattle.std.proofs.Common.{refl};
 ghost use Rattle.std.specs.Cmp.{partial_equiv_from_equiv, po};
 ghost use Rattle.std.specs.Cmp.Lexicographic.{lists_equiv, lists_total, lists_ties, nat_list_eq_equiv};
 ghost use Rattle.std.specs.Cmp.Lexicographic.{nat_list_cmp_total, texts_ties};
+ghost use Rattle.tor_tree.specs.FileList.{paths_of};
 ghost use Rattle.tor_tree.specs.Path.{IsFilePath, name_cmp, path_cmp, path_eq};
 
 use crate::names::{Name, copy_names, each_is_name};
@@ -70,6 +71,17 @@ impl FilePath {
     {
         self.names.as_slice()
     }
+}
+
+/// The paths of files again.
+pub fn copy_paths<T>(alloc: Global, files: &[(FilePath, T)]) -> Result<Vec<FilePath>, AllocError>
+    ensures { IfOk result (λ copies. copies.items ≡ paths_of files.now) }
+{
+    let mut copies = Vec::with_capacity(alloc, files.len())?;
+    for (path, _) in files {
+        copies.push(path.copy(alloc)?)?;
+    }
+    Ok(copies)
 }
 
 /// Each path has names, all without fault. Of a slice contracts see lists of names alone: this says again what the type
