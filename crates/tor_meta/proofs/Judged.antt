@@ -1,8 +1,7 @@
 -- What is known of files where no torrent is refused for the head or the paths.
 use Rattle.std.proofs.Common.{◌≡◌, ℕ, zero, suc, Bool, true, false, ◌&&◌, not, cond, List, [], ◌∷◌, length}
-use Rattle.std.proofs.Common.{get_or, map, Option, None, Some, refl, ◌∙◌}
+use Rattle.std.proofs.Common.{get_or, map, None, refl, ◌∙◌}
 use Rattle.std.specs.List.{AllByRecursion, list_any}
-use Rattle.std.specs.Option.{option_or}
 use Rattle.std.proofs.lemmas.Bool.{ltb-false, or_parts}
 use Rattle.std.proofs.lemmas.List.{length-map}
 use Rattle.std.proofs.lemmas.List.Elements.{All-from_recursion, recursion_from_All}
@@ -18,15 +17,7 @@ use Rattle.tor_tree.specs.FileList.{IsFileList}
 use Rattle.tor_tree.specs.PathList.{AreIndexedPaths}
 use Rattle.tor_v1.specs.Reserved.{is_reserved, takes_reserved}
 use Rattle.tor_v1.specs.declared.layout.Layout.TheVariants.{Joined, Aligned, AlignedTail}
-
-pub both_none : {X : Type 0} (a b : Option X) → option_or a b ≡ None → (a ≡ None) × (b ≡ None)
-both_none None b h = (refl, h)
-both_none (Some x) b h = cc
-
-pub cleared : {X : Type 0} (test : Bool) (fault : X) (rest : Option X) → cond test (Some fault) rest ≡ None
-    → (test ≡ false) × (rest ≡ None)
-cleared true fault rest h = cc
-cleared false fault rest h = (refl, h)
+pub use Rattle.tor_tree.proofs.ProvedLaws.{clear as cleared, neither as both_none}
 
 pub allowed : (b : Bool) → not b ≡ false → b ≡ true
 allowed true h = refl

@@ -37,9 +37,9 @@ use Rattle.tor_meta.proofs.SourceSums.{mapped_none}
 pub numbers_of : {F : Type 0} (order : Order) → numbers_refusal {F = F} order ≡ None
     → (is_piece_length order.piece_length ≡ true) × (is_how order.how ≡ true) × IsSpan order.span
 numbers_of {F} order numbers =
-    let first = cleared {X = MakeError F} (not (is_piece_length order.piece_length)) PieceLength _ numbers in
-    let second = cleared {X = MakeError F} (not (is_how order.how)) Workers _ first.1 in
-    let third = cleared {X = MakeError F} (not (is_span order.span)) Span None second.1 in
+    let first = cleared {E = MakeError F} (not (is_piece_length order.piece_length)) PieceLength _ numbers in
+    let second = cleared {E = MakeError F} (not (is_how order.how)) Workers _ first.1 in
+    let third = cleared {E = MakeError F} (not (is_span order.span)) Span None second.1 in
     let span = and_parts (is_power_of_two order.span) (nat_le 1 order.span && nat_le order.span 1024)
     (allowed (is_span order.span) third.0) in
     let bounds = and_parts (nat_le 1 order.span) (nat_le order.span 1024) span.1 in (
@@ -235,14 +235,14 @@ module _ {F : Type 0} (order : Order) (paths : List (List (List ℕ)))
   after_numbers = both_none _ _ (both_none (stream_numbers_refusal {F = F} order) _ accepted).1
 
   pub stream_rising : are_rising paths ≡ true
-  stream_rising = allowed (are_rising paths) (cleared {X = MakeError F} _ NotSorted _ after_numbers.1).0
+  stream_rising = allowed (are_rising paths) (cleared {E = MakeError F} _ NotSorted _ after_numbers.1).0
 
   pub stream_paths : paths_refusal (settings_of_order order) paths ≡ None
   stream_paths =
       let settings = settings_of_order order in
       let shape = mapped_none (of_contents_error {F = F}) (shape_refusal settings paths) after_numbers.0 in
       let ordered = mapped_none (of_contents_error {F = F}) (ordered_refusal settings paths)
-      (cleared {X = MakeError F} _ NotSorted _ after_numbers.1).1 in
+      (cleared {E = MakeError F} _ NotSorted _ after_numbers.1).1 in
       rw shape ordered
 
 -- one content that is read as a stream is refused for a number of the stream's, or as one that is not

@@ -25,7 +25,7 @@ use std::alloc::{AllocError, Global};
 use std::thread::Threads;
 use tor_engine::ask_lengths;
 use tor_source::Source;
-use tor_tree::{Attr, FileList, FilePath, PathList};
+use tor_tree::{Attr, FileList, FilePath, PathList, copy_paths};
 
 /// The bytes of the torrent of the files of a source: file i of the source has path i, and no letters. All else is as
 /// with [`make_with`].
@@ -133,22 +133,11 @@ fn judge<F>(
     if let Some(refusal) = refusal_of_numbers(order) {
         return Err(refusal);
     }
-    let copies = copies(alloc, files)?;
+    let copies = copy_paths(alloc, files)?;
     match judge_paths(alloc, head, copies) {
         Ok(paths) => Ok(paths),
         Err(refusal) => Err(MakeError::from(refusal)),
     }
-}
-
-/// The paths of files again.
-pub(crate) fn copies(alloc: Global, files: &[(FilePath, Attr)]) -> Result<Vec<FilePath>, AllocError>
-    ensures { IfOk result (λ copies. copies.items ≡ paths_of files.now) }
-{
-    let mut copies = Vec::with_capacity(alloc, files.len())?;
-    for (path, _) in files {
-        copies.push(path.copy(alloc)?)?;
-    }
-    Ok(copies)
 }
 
 /// The list of the files of the source that have these paths, each with its letters, and the index of each.

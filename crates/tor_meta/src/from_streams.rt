@@ -10,7 +10,7 @@ ghost use Rattle.tor_meta.specs.Make.{IsOwn};
 ghost use Rattle.tor_meta.specs.MakeStreams.{IsGivenByReaders, IsMadeOfReaders, are_rising};
 ghost use Rattle.tor_meta.specs.MakeStreams.{stream_numbers_refusal, stream_refusal};
 ghost use Rattle.tor_meta.specs.Order.{has_tail, settings_of_order};
-ghost use Rattle.tor_meta.specs.Refusal.{ordered_refusal, paths_refusal};
+ghost use Rattle.tor_meta.specs.Refusal.{paths_refusal};
 ghost use Rattle.tor_meta.specs.steps.Sums.{AreSumsOfSettings};
 ghost use Rattle.tor_meta.specs.declared.make_error.MakeError.{MakeError};
 ghost use Rattle.tor_meta.specs.declared.refusals.ContentsError.{ContentsError};
@@ -20,7 +20,7 @@ ghost use Rattle.tor_tree.specs.FileList.{lengths_fault, paths_of};
 ghost use Rattle.tor_tree.specs.PathList.{AreIndexedPaths, IsPathList, with_indices};
 ghost use Rattle.tor_tree.specs.declared.lists.ListError.{ListError};
 
-use crate::from_source::{copies, without_letters};
+use crate::from_source::without_letters;
 use crate::head::Head;
 use crate::judge::{put_in_order, refusal_of_shape};
 use crate::listed_files::torrent_of_sums;
@@ -33,7 +33,7 @@ use std::sync::Wait;
 use std::thread::Threads;
 use tor_engine::{EngineError, MAX_UNIT_LENGTH, Sums, hash_streams};
 use tor_merkle::laws::piece_length_bounds;
-use tor_tree::{Attr, FileList, FilePath, PathList};
+use tor_tree::{Attr, FileList, FilePath, PathList, copy_paths};
 
 /// The bytes of the torrent of what readers give: reader i has path i, and no letters. All else is as with
 /// [`make_streams_with`].
@@ -189,7 +189,7 @@ fn judge(
     if let Some(refusal) = refusal_of_stream_numbers(order) {
         return Err(refusal);
     }
-    let paths = copies(alloc, files)?;
+    let paths = copy_paths(alloc, files)?;
     if let Some(refusal) = refusal_of_shape(head, &paths) {
         return Err(MakeError::from(refusal));
     }
