@@ -1,10 +1,8 @@
 //! The letters of files, from a file of the system (BEP 47, "attr").
-ghost use Rattle.std.specs.Prelude.{◌≡◌, ℕ, List, IfErr, IfOk, MatchOption, map, option_map};
+ghost use Rattle.std.specs.Prelude.{◌≡◌, IfErr, IfOk, MatchOption, map, option_map};
 ghost use Rattle.std.specs.List.{zip};
 ghost use Rattle.std.specs.List.Sorted.{IsStrictlySortedBy};
-ghost use Rattle.tor_meta.specs.Contents.{without_letters};
 ghost use Rattle.tor_tree.specs.FileList.{paths_of};
-ghost use Rattle.tor_tree.specs.Letters.{no_letters};
 ghost use Rattle.tor_tree.specs.Path.{path_cmp};
 ghost use Rattle.tor_cli.specs.make.Attrs.{AreAmong, AreLetteredBy, HaveLetters, IsNotLettered, letters_in, lettered};
 ghost use Rattle.tor_cli.specs.steps.Lettering.{IsNotLetteredBy};
@@ -31,7 +29,7 @@ pub fn lettered_files(
 {
     let alloc = system.alloc();
     let Some(place) = place else {
-        let attrs = none_each(alloc, &paths)?;
+        let attrs = Attr::none_each(alloc, &paths)?;
         return Ok(paths_with_attrs(alloc, paths, attrs)?);
     };
     let bytes = read_file(alloc, system, place)?;
@@ -85,7 +83,7 @@ fn attrs_of(
     ensures { IfOk result (λ found. MatchOption found (AreAmong paths.now named.now → ⊥)
         (λ attrs. (attrs.items ≡ map (letters_in named.now) paths.now) × AreAmong paths.now named.now)) }
 {
-    let mut attrs = none_each(alloc, paths)?;
+    let mut attrs = Attr::none_each(alloc, paths)?;
     let mut left = named.len();
     'named: while left > 0 {
         left -= 1;
@@ -96,17 +94,6 @@ fn attrs_of(
         attrs[place] = *attr;
     }
     Ok(Some(attrs))
-}
-
-/// No letters for each path.
-fn none_each(alloc: Global, paths: &[FilePath]) -> Result<Vec<Attr>, AllocError>
-    ensures { IfOk result (λ attrs. attrs.items ≡ map (λ path. no_letters) paths.now) }
-{
-    let mut attrs = Vec::with_capacity(alloc, paths.len())?;
-    for _path in paths {
-        attrs.push(Attr::NONE)?;
-    }
-    Ok(attrs)
 }
 
 /// Each path with the letters beside it.

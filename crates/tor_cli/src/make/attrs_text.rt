@@ -11,7 +11,7 @@ ghost use Rattle.tor_cli.specs.make.AttrsText.{AreLettered, IsLettered, attrs_li
 ghost use Rattle.tor_tree.specs.declared.attr.Attr.{Attr};
 
 use std::alloc::{AllocError, Global};
-use tor_tree::{Attr, FilePath, ListError, Name, NameError, PathList};
+use tor_tree::{Attr, FilePath, ListError, Name, NameError, PathList, copy_paths};
 
 /// The files of which this is the text: a line for each, with its letters, a space, and its path. None if it is the
 /// text of no files: of other bytes, of a path that is none, or of one that has two lines.
@@ -34,10 +34,7 @@ pub fn read_attrs(alloc: Global, text: &[u8]) -> Result<Option<Vec<(FilePath, At
 fn names_twice(alloc: Global, files: &[(FilePath, Attr)]) -> Result<bool, AllocError>
     ensures { IfOk result (λ repeat. repeat ≡ paths_repeat (paths_of files.now)) }
 {
-    let mut paths = Vec::with_capacity(alloc, files.len())?;
-    for (path, _) in files {
-        paths.push(path.copy(alloc)?)?;
-    }
+    let paths = copy_paths(alloc, files)?;
     repeat(alloc, paths)
 }
 
