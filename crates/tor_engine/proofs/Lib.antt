@@ -27,6 +27,7 @@ pub mod SharedContents
 pub mod Stopping
 pub mod Told
 pub mod ToldContents
+pub mod Unsummed
 pub mod UnitRuns
 pub mod UnitShares
 pub mod UnitSummed

@@ -13,7 +13,7 @@ use Rattle.std.proofs.lemmas.List.Sums.{sum_by-cons}
 use Rattle.tor_plan.specs.Content.{part_content, unit_content}
 use Rattle.tor_plan.specs.PlanFacts.{PlanFacts}
 use Rattle.tor_plan.specs.Present.{is_part_there, is_there}
-use Rattle.tor_plan.specs.WithinEntries.{IsInFile}
+use Rattle.tor_plan.specs.WithinEntries.{IsInFile, unit_length}
 use Rattle.tor_plan.specs.declared.units.Part.{Part}
 use Rattle.tor_plan.specs.declared.units.PlanUnit.{PlanUnit}
 use Rattle.tor_source.specs.Source.{SourceFacts}
@@ -46,23 +46,35 @@ one_sum : (sum : List ℕ) → length sum ≡ 20 → sums_in sum ≡ sum ∷ []
 one_sum sum long =
     ap (λ n. first_chunks 20 (n / 20) sum) long ∙ ap (λ xs. xs ∷ []) (take_all 20 sum (omega (arith, long)))
 
+-- a side's hash, where the kind has it
+pub some_if : (b : Bool) (sum own : List ℕ) → b ≡ true → own ≡ cond b sum [] → Some own ≡ cond b (Some sum) None
+some_if true sum own has is = ap Some is
+some_if false sum own has is = absurd (true≢false (sym has))
+
+pub none_if : (b : Bool) (sum : List ℕ) → b ≡ false → None ≡ cond b (Some sum) None
+none_if true sum has = absurd (true≢false has)
+none_if false sum has = refl
+
+-- its one SHA-1 has 20 bytes
+pub one_long : (sums_law : LengthOfSums) (plan : PlanFacts) (piece : PlanUnit) → IsPiece plan piece
+    → (joined : List ℕ) → length joined ≡ unit_length piece → length (piece_sums plan.piece_length joined) ≡ 20
+one_long sums_law plan piece is joined long =
+    sums_law plan.piece_length joined
+    ∙ ap (λ n. 20 * n) (one_ceil (length joined) plan.piece_length (omega (arith, long, is.some))
+    (omega (arith, long, is.within)))
+
+-- and none where the kind has none
+pub long_if : (sums_law : LengthOfSums) (plan : PlanFacts) (piece : PlanUnit) → IsPiece plan piece
+    → (joined : List ℕ) → length joined ≡ unit_length piece → (b : Bool)
+    → cond b 20 0 ≡ length (cond b (piece_sums plan.piece_length joined) [])
+long_if sums_law plan piece is joined long true = sym (one_long sums_law plan piece is joined long)
+long_if sums_law plan piece is joined long false = refl
+
 -- a piece that is there
 module _ (plan : PlanFacts) (contents : List (List ℕ)) (piece : PlanUnit) (is : IsPiece plan piece)
     (there : is_there contents piece ≡ true) where
   abbrev p : ℕ
   p = plan.piece_length
-
-  -- its one SHA-1, where the kind has them
-  pub one_sum_if : (sums_law : LengthOfSums) (b : Bool) (text : List ℕ)
-      → text ≡ cond b (piece_sums p (unit_content contents piece)) []
-      → slice_get (sums_in text) 0 ≡ cond b (Some (piece_sums p (unit_content contents piece))) None
-  one_sum_if sums_law true text is_sum =
-      let content = unit_content contents piece in
-      let long = unit_long contents piece there in
-      let count = one_ceil (length content) p (omega (arith, long, is.some)) (omega (arith, long, is.within)) in
-      ap (λ xs. slice_get xs 0) (ap sums_in is_sum
-      ∙ one_sum (piece_sums p content) (sums_law p content ∙ ap (λ n. 20 * n) count))
-  one_sum_if sums_law false text is_sum = ap (λ xs. slice_get (sums_in xs) 0) is_sum
 
   has_pieces : (parts : List Part) → AllByRecursion (Inside contents) parts
       → AllByRecursion (IsInFile plan.lengths) parts → sum_by (λ part. part.length + part.zeros) parts ≤ p

@@ -3,3 +3,4 @@ pub mod Failing
 pub mod Pieces
 pub mod RowSums
 pub mod Taken
+pub mod Unsummed

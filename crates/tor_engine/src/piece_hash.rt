@@ -1,19 +1,24 @@
-//! What one piece hashes to.
-ghost use Rattle.std.specs.Prelude.{◌≡◌, ◌≢◌, ◌≤◌, true, [], ℕ, List, None, Some, length, if◌then◌else◌};
+//! What one piece hashes to, and what is known of it while its SHA-1 is owed.
+ghost use Rattle.std.specs.Prelude.{◌≡◌, ◌≢◌, ◌≤◌, true, [], ℕ, List, None, Some, is_some, length};
+ghost use Rattle.std.specs.Prelude.{if◌then◌else◌};
 ghost use Rattle.std.specs.List.{flat_map};
 ghost use Rattle.tor_plan.specs.Content.{unit_content};
 ghost use Rattle.tor_plan.specs.Present.{is_there};
-ghost use Rattle.tor_tree.specs.Kinds.{has_v2};
-ghost use Rattle.tor_sums.specs.Hasher.{AreHashesOf, IsTreeOf};
+ghost use Rattle.tor_tree.specs.Kinds.{has_v1, has_v2};
+ghost use Rattle.tor_v1.specs.Piece.{piece_sums};
+ghost use Rattle.tor_sums.specs.Hasher.{IsTreeOf};
 ghost use Rattle.tor_engine.specs.PieceHashes.{hash_of_parts, merkle_hash, piece_hash};
 ghost use Rattle.tor_sums.specs.steps.Hashes.{bytes_of_part};
-ghost use Rattle.tor_engine.specs.steps.Pieces.{HasPieces, IsPiece};
+ghost use Rattle.tor_engine.specs.declared.piece_hash.TheConstants.{SUM_LENGTH};
+ghost use Rattle.tor_engine.specs.steps.Pieces.{HasPieces, IsPiece, hashes_in, owed_to_piece, paid_piece};
 
 use tor_merkle::laws::root_of_short_content;
 use tor_merkle::{FedTree, Hash};
 use tor_plan::{Plan, PlanUnit};
-use tor_sums::Hashed;
-use tor_v1::laws::length_of_sums;
+use tor_sums::Owed;
+
+/// The bytes of a SHA-1.
+const SUM_LENGTH: usize = 20;
 
 /// The hashes of a piece, one for each side that a torrent of its kind has.
 #[derive(Clone, Copy, Debug, PartialEq, Eq)]
@@ -25,19 +30,73 @@ pub struct PieceHash {
     pub v2: Option<Hash>,
 }
 
-/// The hashes of a piece, on each side that has one.
-pub(crate) fn hashes_of_piece(plan: &Plan, piece: &PlanUnit, hashed: Hashed) -> PieceHash
-    requires { IsPiece plan.now piece.now }
-    ensures { (contents : List (List ℕ)) → is_there contents piece.now ≡ true →
-        AreHashesOf plan.now.kind plan.now.piece_length (flat_map (bytes_of_part contents) piece.now.parts)
-        (unit_content contents piece.now) hashed → result ≡ piece_hash plan.now contents piece.now }
+/// What is known of a piece while the worker that has read it owes sums.
+#[derive(Clone, Copy, Debug, PartialEq, Eq)]
+pub(crate) enum FoundPiece {
+    /// Some byte of it is not there.
+    Missing,
+    /// It is there, and has these hashes.
+    Hashed(PieceHash),
+    /// It is there, and has this Merkle hash, none in V1; its SHA-1 is owed.
+    Unsummed(Option<Hash>),
+}
+
+impl FoundPiece {
+    /// Its hashes, as far as they are known; none if a byte of it is not there.
+    pub(crate) fn hashes(&self) -> Option<PieceHash>
+        ensures { result ≡ hashes_in self.now }
+    {
+        match self {
+            FoundPiece::Missing => None,
+            FoundPiece::Hashed(hashes) => Some(*hashes),
+            FoundPiece::Unsummed(v2) => Some(PieceHash { v1: None, v2: *v2 }),
+        }
+    }
+}
+
+impl Owed for FoundPiece {
+    ghost owed = { owed_to_piece };
+
+    ghost paid = { paid_piece };
+
+    fn take_own<'a>(&mut self, sums: &'a [u8]) -> &'a [u8] {
+        match *self {
+            FoundPiece::Unsummed(v2) => {
+                let (own, rest) = sums.split_at(SUM_LENGTH);
+                *self = FoundPiece::Hashed(PieceHash {
+                    v1: first_sum(own),
+                    v2,
+                });
+                rest
+            }
+            _ => sums,
+        }
+    }
+}
+
+/// The first of joined SHA-1s.
+fn first_sum(joined: &[u8]) -> Option<[u8; 20]>
+    ensures { length joined.now ≡ SUM_LENGTH → result ≡ Some joined.now }
 {
-    length_of_sums();
-    let Hashed { tree, pieces } = hashed;
-    let (sums, _) = pieces.as_chunks::<20>();
-    PieceHash {
-        v1: sums.first().copied(),
-        v2: merkle_hash_of_piece(plan, piece, tree),
+    let (sums, _) = joined.as_chunks::<20>();
+    sums.first().copied()
+}
+
+/// What was found of a piece that was read, from the tree over its bytes.
+pub(crate) fn piece_of_tree(plan: &Plan, piece: &PlanUnit, tree: Option<FedTree>) -> FoundPiece
+    requires { IsPiece plan.now piece.now }
+    ensures hashes { (contents : List (List ℕ)) (own : List ℕ) → is_there contents piece.now ≡ true →
+        IsTreeOf plan.now.kind plan.now.piece_length (flat_map (bytes_of_part contents) piece.now.parts) tree →
+        own ≡ (if has_v1 plan.now.kind then piece_sums plan.now.piece_length (unit_content contents piece.now) else []) →
+        hashes_in (paid_piece result own) ≡ Some (piece_hash plan.now contents piece.now) }
+    ensures owed { owed_to_piece result ≡ (if has_v1 plan.now.kind then SUM_LENGTH else 0) }
+    ensures there { is_some (hashes_in result) ≡ true }
+{
+    let v2 = merkle_hash_of_piece(plan, piece, tree);
+    if plan.kind().has_v1() {
+        FoundPiece::Unsummed(v2)
+    } else {
+        FoundPiece::Hashed(PieceHash { v1: None, v2 })
     }
 }
 

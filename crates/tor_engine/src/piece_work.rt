@@ -1,28 +1,26 @@
 //! The pieces of units hashed, those that are wholly there.
-ghost use Rattle.std.specs.Prelude.{◌≡◌, ◌↔◌, true, [], ℕ, All, IsTrue, List, None, Some};
-ghost use Rattle.std.specs.Prelude.{IfErr, IfOk, MatchResult, is_some, length, replicate};
+ghost use Rattle.std.specs.Prelude.{◌≡◌, ◌↔◌, ◌++◌, [], ℕ, IsTrue, List, None, IfErr, IfOk, MatchResult, length, map};
+ghost use Rattle.std.specs.Prelude.{replicate};
 ghost use Rattle.tor_plan.specs.PlanFacts.{IsPlan};
-ghost use Rattle.tor_plan.specs.Present.{is_there};
-ghost use Rattle.tor_plan.specs.WithinEntries.{IsInFile};
 ghost use Rattle.tor_source.specs.Source.{SourceFacts};
 ghost use Rattle.tor_sums.specs.Contents.{contents_in};
-ghost use Rattle.tor_sums.specs.Fault.{IsFault, unit_fault};
-ghost use Rattle.tor_engine.specs.PieceFault.{piece_fault};
-ghost use Rattle.tor_engine.specs.PieceHashes.{hash_if_there, piece_hash};
-ghost use Rattle.tor_engine.specs.There.{is_within};
-ghost use Rattle.tor_sums.specs.steps.Each.{SumUpEach};
+ghost use Rattle.tor_sums.specs.Fault.{IsFault};
+ghost use Rattle.tor_sums.specs.steps.Each.{OweEach};
 ghost use Rattle.tor_sums.specs.steps.Given.{IsGivenRead, lengths_of_sizes};
-ghost use Rattle.tor_engine.specs.steps.Pieces.{AreTold, HashesPieces, IsPaddingSum, IsPiece, IsUnitToHash};
+ghost use Rattle.tor_sums.specs.steps.Owing.{Owes};
+ghost use Rattle.tor_engine.specs.PieceFault.{piece_fault};
+ghost use Rattle.tor_engine.specs.steps.Pieces.{AreTold, HashesPieces, IsPaddingSum, IsPiece, IsUnitToHash, hashes_in};
 ghost use Rattle.tor_engine.specs.steps.Pieces.{unit_pieces_fault};
-ghost use Rattle.tor_sums.specs.steps.Worker.{IsFresh};
+ghost use Rattle.tor_engine.specs.steps.Unsummed.{FindsPiece, OwePieces, owed_to_pieces, paid_pieces};
 
-use crate::piece_hash::{PieceHash, hashes_of_piece};
+use crate::piece_hash::{FoundPiece, PieceHash, piece_of_tree};
 use crate::present::is_there;
 use crate::unit_work::UnitWork;
 use std::alloc::{AllocError, Global};
 use tor_merkle::Hash;
 use tor_plan::{Plan, PlanUnit};
-use tor_sums::{EngineError, FileBytes, OwingSums, WorkerSums, hash_unit};
+use tor_sums::{EngineError, FileBytes, Owed, OwingSums, pay, read_tree};
+use tor_v1::laws::length_of_sums;
 
 /// What is known before units are read.
 #[derive(Drop)]
@@ -33,12 +31,22 @@ pub(crate) struct Known {
     pub(crate) padding_sum: Option<[u8; 20]>,
 }
 
-/// What the pieces of a unit hash to, none if a byte of one is not there.
+/// What is known of the pieces of a unit.
 #[derive(Drop)]
 pub(crate) struct UnitPieces {
     /// The unit's number.
     pub(crate) unit: u64,
-    pub(crate) hashes: Vec<Option<PieceHash>>,
+    pub(crate) pieces: Vec<FoundPiece>,
+}
+
+impl Owed for UnitPieces {
+    ghost owed = { owed_to_pieces };
+
+    ghost paid = { paid_pieces };
+
+    fn take_own<'a>(&mut self, sums: &'a [u8]) -> &'a [u8] {
+        pay(self.pieces.as_mut_slice(), sums)
+    }
 }
 
 /// Hashes the pieces of units, of files that may be cut short or missing.
@@ -66,11 +74,11 @@ impl<'a, S: FileBytes> UnitWork for PieceWork<'a, S> {
         unit_pieces_fault facts work.plan.now (contents_in facts (length work.plan.now.lengths)) unit };
 
     ghost sums_up = { λ work unit sums. HashesPieces (S.is_steady work.source.now) work.plan.now
-        work.known.now.lengths.items unit sums.hashes.items };
+        work.known.now.lengths.items unit (map hashes_in sums.pieces.items) };
 
-    ghost stands = { λ work units sums worker. IsFresh work.plan.now [] worker.sums
-        × SumUpEach (λ unit one. HashesPieces (S.is_steady work.source.now) work.plan.now
-        work.known.now.lengths.items unit one.hashes.items) units sums };
+    ghost stands = { λ work units sums worker. (owed : List ℕ) × Owes work.plan.now owed worker
+        × OweEach (OwePieces (S.is_steady work.source.now) work.plan.now work.known.now.lengths.items)
+        units sums owed };
 
     ghost number_in = { λ _ sums. sums.unit };
 
@@ -95,29 +103,31 @@ impl<'a, S: FileBytes> UnitWork for PieceWork<'a, S> {
         worker: &mut OwingSums,
     ) -> Result<UnitPieces, EngineError<S::Fault>> {
         let pieces = unit.pieces(self.alloc, self.plan.piece_length())?;
-        let mut hashes = Vec::new(self.alloc);
+        let mut found = Vec::with_capacity(self.alloc, pieces.len())?;
         'pieces: for piece in pieces.as_slice() {
-            let hash = match hash_if_there(
+            let one = match find_piece(
                 self.alloc,
                 self.source,
                 self.plan,
                 self.known,
                 piece,
-                &mut worker.sums,
+                worker,
             ) {
-                Ok(hash) => hash,
+                Ok(one) => one,
                 Err(error) => return Err(error),
             };
-            hashes.push(hash)?;
+            found.push(one)?;
         }
         Ok(UnitPieces {
             unit: number,
-            hashes,
+            pieces: found,
         })
     }
 
-    // Each piece was hashed by itself.
-    fn complete(&self, _worker: OwingSums, _sums: &mut Vec<UnitPieces>) {}
+    fn complete(&self, worker: OwingSums, sums: &mut Vec<UnitPieces>) {
+        let owed = worker.finish(self.alloc);
+        pay(sums.as_mut_slice(), &owed);
+    }
 
     fn number_of(&self, sums: &UnitPieces) -> u64 {
         sums.unit
@@ -129,39 +139,40 @@ impl<'a, S: FileBytes> UnitWork for PieceWork<'a, S> {
     }
 }
 
-/// The hashes of a piece, none if a byte of it is not there. Such a piece is not read.
-fn hash_if_there<S: FileBytes>(
+/// What is found of a piece. One of which a byte is not there is not read.
+fn find_piece<S: FileBytes>(
     alloc: Global,
     source: &S,
     plan: &Plan,
     known: &Known,
     piece: &PlanUnit,
-    sums: &mut WorkerSums,
-) -> Result<Option<PieceHash>, EngineError<S::Fault>>
+    worker: &mut OwingSums,
+) -> Result<FoundPiece, EngineError<S::Fault>>
     requires planned { IsPlan plan.now }
     requires padding { IsPaddingSum plan.now known.now.padding_sum }
     requires piece { IsPiece plan.now piece.now }
-    requires fresh { IsFresh plan.now [] sums.old }
-    ensures fresh { IfOk result (λ _. IsFresh plan.now [] sums.new) }
-    ensures hashed { (facts : SourceFacts S.Fault) → S.is_steady source.now facts →
+    requires owing { (owed : List ℕ) × Owes plan.now owed worker.old }
+    ensures owing { (owed : List ℕ) → Owes plan.now owed worker.old → IfOk result (λ found. (own : List ℕ)
+        × FindsPiece (S.is_steady source.now) plan.now known.now.lengths.items piece.now found own
+        × Owes plan.now (owed ++ own) worker.new) }
+    ensures fault { (facts : SourceFacts S.Fault) → S.is_steady source.now facts →
         AreTold known.now.lengths.items (contents_in facts (length plan.now.lengths)) →
         MatchResult result
-        (λ hash. (hash ≡ hash_if_there plan.now (contents_in facts (length plan.now.lengths)) piece.now)
-        × (piece_fault facts (contents_in facts (length plan.now.lengths)) piece.now ≡ None))
+        (λ _. piece_fault facts (contents_in facts (length plan.now.lengths)) piece.now ≡ None)
         (IsFault (piece_fault facts (contents_in facts (length plan.now.lengths)) piece.now)) }
-    ensures there { IfOk result (λ hash. is_some hash ≡ is_within known.now.lengths.items piece.now) }
     ensures gave { IfErr result (IsGivenRead (S.answers source.now) (lengths_of_sizes known.now.lengths.items)) }
 {
+    length_of_sums();
     if !is_there(&known.lengths, piece) {
-        return Ok(None);
+        return Ok(FoundPiece::Missing);
     }
     match known.padding_sum {
-        Some(sum) if is_padding(piece, plan.piece_length()) => Ok(Some(PieceHash {
+        Some(sum) if is_padding(piece, plan.piece_length()) => Ok(FoundPiece::Hashed(PieceHash {
             v1: Some(sum),
             v2: None,
         })),
-        _ => match hash_piece(alloc, source, plan, piece, sums) {
-            Ok(hash) => Ok(Some(hash)),
+        _ => match read_tree(alloc, source, plan, piece, worker) {
+            Ok(tree) => Ok(piece_of_tree(plan, piece, tree)),
             Err(error) => Err(error),
         },
     }
@@ -172,31 +183,4 @@ fn is_padding(piece: &PlanUnit, piece_length: u64) -> bool
     ensures { IsTrue result ↔ ((piece.now.zeros ≡ piece_length) × (piece.now.parts ≡ [])) }
 {
     piece.zeros == piece_length && piece.parts.as_slice().is_empty()
-}
-
-/// Reads a piece that is there, and gives its hashes.
-fn hash_piece<S: FileBytes>(
-    alloc: Global,
-    source: &S,
-    plan: &Plan,
-    piece: &PlanUnit,
-    sums: &mut WorkerSums,
-) -> Result<PieceHash, EngineError<S::Fault>>
-    requires planned { IsPlan plan.now }
-    requires piece { IsPiece plan.now piece.now }
-    requires fresh { IsFresh plan.now [] sums.old }
-    ensures fresh { IfOk result (λ _. IsFresh plan.now [] sums.new) }
-    ensures hashed { (facts : SourceFacts S.Fault) → S.is_steady source.now facts →
-        is_there (contents_in facts (length plan.now.lengths)) piece.now ≡ true →
-        MatchResult result
-        (λ hash. (hash ≡ piece_hash plan.now (contents_in facts (length plan.now.lengths)) piece.now)
-        × (unit_fault facts piece.now ≡ None))
-        (IsFault (unit_fault facts piece.now)) }
-    ensures gave { (lengths : List ℕ) → All (IsInFile lengths) piece.now.parts →
-        IfErr result (IsGivenRead (S.answers source.now) lengths) }
-{
-    match hash_unit(alloc, source, plan, piece, sums) {
-        Ok(hashed) => Ok(hashes_of_piece(plan, piece, hashed)),
-        Err(error) => Err(error),
-    }
 }

@@ -1,5 +1,5 @@
 //! The pieces of a plan hashed, of files that may be cut short or missing, and the lengths of these files.
-ghost use Rattle.std.specs.Prelude.{◌≡◌, None, IfErr, IfOk, IsSome, MatchResult, OnOk, length, nat_le};
+ghost use Rattle.std.specs.Prelude.{◌≡◌, ◌++◌, None, IfErr, IfOk, IsSome, MatchResult, OnOk, length, map, nat_le};
 ghost use Rattle.std.specs.List.{flat_map, list_any};
 ghost use Rattle.tor_source.specs.Source.{SourceFacts};
 ghost use Rattle.tor_sums.specs.Contents.{contents_in};
@@ -10,17 +10,17 @@ ghost use Rattle.tor_engine.specs.PieceFault.{first_asked_fault, first_piece_fau
 ghost use Rattle.tor_engine.specs.PieceHashes.{piece_hashes, pieces_of_plan};
 ghost use Rattle.tor_engine.specs.There.{HasHashesWithin};
 ghost use Rattle.tor_sums.specs.steps.Given.{IsGivenKnown};
-ghost use Rattle.tor_engine.specs.steps.Pieces.{IsPaddingSum, MayHavePadding, has_long_zeros};
+ghost use Rattle.tor_engine.specs.steps.Pieces.{IsPaddingSum, MayHavePadding, has_long_zeros, hashes_in};
 
 use crate::asked::{ask_each, expect_each};
-use crate::piece_hash::PieceHash;
+use crate::piece_hash::{FoundPiece, PieceHash};
 use crate::piece_work::{Known, PieceWork, UnitPieces};
 use crate::units::hash_units;
 use std::alloc::{AllocError, Global};
 use std::thread::Threads;
 use tor_plan::{Forest, Part, Plan, PlanUnit};
 use tor_source::Source;
-use tor_sums::{EngineError, How, feed_zeros, items_of_each};
+use tor_sums::{EngineError, How, feed_zeros};
 use tor_v1::PieceSums;
 use tor_v1::laws::length_of_sums;
 
@@ -189,7 +189,21 @@ fn hashes_of_pieces(
     alloc: Global,
     units: &[UnitPieces],
 ) -> Result<Vec<Option<PieceHash>>, AllocError>
-    ensures { IfOk result (λ all. all.items ≡ flat_map (λ unit. unit.hashes.items) units.now) }
+    ensures { IfOk result (λ all. all.items ≡ flat_map (λ unit. map hashes_in unit.pieces.items) units.now) }
 {
-    items_of_each(alloc, units, |unit| unit.hashes.as_slice())
+    let mut all = Vec::new(alloc);
+    'units: for unit in units {
+        push_hashes(&mut all, &unit.pieces)?;
+    }
+    Ok(all)
+}
+
+/// Adds the hashes of pieces.
+fn push_hashes(all: &mut Vec<Option<PieceHash>>, pieces: &[FoundPiece]) -> Result<(), AllocError>
+    ensures { IfOk result (λ _. all.new.items ≡ all.old.items ++ map hashes_in pieces.now) }
+{
+    'pieces: for piece in pieces {
+        all.push(piece.hashes())?;
+    }
+    Ok(())
 }

@@ -68,7 +68,7 @@ impl<'a, S: FileBytes> UnitWork for SumWork<'a, S> {
 
     fn complete(&self, worker: OwingSums, sums: &mut Vec<UnitSums>) {
         let owed = worker.finish(self.alloc);
-        pay(sums, &owed);
+        pay(sums.as_mut_slice(), &owed);
     }
 
     fn number_of(&self, sums: &UnitSums) -> u64 {

@@ -1,15 +1,16 @@
 -- Units that get the sums of their pieces.
 use Rattle.std.proofs.Common.{◌≡◌, ◌≤◌, ◌+◌, ℕ, List, [], ◌∷◌, ◌++◌, Result, Ok, Err, IfOk, drop, length, map, take}
 use Rattle.std.proofs.Common.{refl, ap, ap₂, sym, subst, ◌∙◌, append_assoc, append-nil, arith, length-append}
-use Rattle.std.proofs.Common.{◌<◌, get_or, set}
-use Rattle.std.proofs.lemmas.List.{drop-set-lt, drop_at, drop_more, length-set, take_at, take_more_set, with_items_is}
+use Rattle.std.proofs.Common.{◌<◌, get_or, set, sum_by, drop-drop}
+use Rattle.std.proofs.lemmas.List.{drop-set-lt, drop_at, drop_more, length-drop, take_at, take_more_set, with_items_is}
+use Rattle.std.proofs.lemmas.List.Sums.{sum_by-cons}
 use Rattle.std.specs.Vec.{with_items}
 use Rattle.tor_plan.specs.PlanFacts.{PlanFacts}
 use Rattle.tor_plan.specs.declared.units.PlanUnit.{PlanUnit}
 use Rattle.tor_source.specs.Source.{SourceFacts}
 use Rattle.tor_sums.specs.declared.unit_sums.UnitSums.{UnitSums}
 use Rattle.tor_sums.specs.steps.Each.{OweEach, SumUpEach}
-use Rattle.tor_sums.specs.steps.Owing.{CanPay, paid, paid_one}
+use Rattle.tor_sums.specs.steps.Owing.{paid_each, paid_one}
 use Rattle.tor_sums.specs.steps.Run.{HashesUnits, OwesUnit, SumsUpUnit, node_in}
 
 pub if_ok_more : {T E : Type 0} (result : Result T E) (P Q : T → Type 0) → ((one : T) → P one → Q one) → IfOk result P
@@ -39,96 +40,105 @@ module _ {A : Type 0} (owes : PlanUnit → A → List ℕ → Type 0) where
     sym (append_assoc each.0 each.1 own) ∙ ap (λ xs. xs ++ own) each.4,
   )
 
-module _ {F : Type 0} (is_steady : SourceFacts F → Type 0) (plan : PlanFacts) where
-  abbrev Owe : List PlanUnit → List UnitSums → List ℕ → Type 0
-  Owe = OweEach (OwesUnit is_steady plan)
+module _ {A : Type 0} (owed : A → ℕ) (paid : A → List ℕ → A) where
+  -- what each is told by stays
+  pub paid_alike : {B : Type 0} (f : A → B) → ((one : A) (own : List ℕ) → f (paid one own) ≡ f one)
+      → (items : List A) (sums : List ℕ) → map f (paid_each owed paid items sums) ≡ map f items
+  unfolding paid_each
+  paid_alike f same [] sums = refl
+  paid_alike f same (one ∷ items) sums =
+      ap₂ (λ x xs. x ∷ xs) (same one (take (owed one) sums)) (paid_alike f same items (drop (owed one) sums))
 
-  front_is : (one : UnitSums) (own rest owed : List ℕ) → length one.pieces.items ≡ length own → own ++ rest ≡ owed
-      → take (length one.pieces.items) owed ≡ own
-  front_is one own rest owed long is =
-      ap (take (length one.pieces.items)) (sym is) ∙ take_at own rest (length one.pieces.items) (sym long)
+  pub paid_none : (sums : List ℕ) → paid_each owed paid [] sums ≡ []
+  unfolding paid_each
+  paid_none sums = refl
 
-  rest_is : (one : UnitSums) (own rest owed : List ℕ) → length one.pieces.items ≡ length own → own ++ rest ≡ owed
-      → drop (length one.pieces.items) owed ≡ rest
-  rest_is one own rest owed long is =
-      ap (drop (length one.pieces.items)) (sym is) ∙ drop_at own rest (length one.pieces.items) (sym long)
+  -- ---- where each unit owes some
 
-  pub can_pay : (units : List PlanUnit) (sums : List UnitSums) (owed : List ℕ) → Owe units sums owed → CanPay sums owed
-  unfolding OweEach CanPay
-  can_pay [] [] owed each = tt
-  can_pay [] (one ∷ sums) owed each = absurd each
-  can_pay (unit ∷ units) [] owed each = absurd each
-  can_pay (unit ∷ units) (one ∷ sums) owed each = (
-    omega (arith, each.2.1, ap length each.4, length-append each.0 each.1),
-    subst (CanPay sums) (sym (rest_is one each.0 each.1 owed each.2.1 each.4)) (can_pay units sums each.1 each.3),
-  )
+  module _ (owes : PlanUnit → A → List ℕ → Type 0)
+      (fits : (unit : PlanUnit) (one : A) (own : List ℕ) → owes unit one own → owed one ≡ length own) where
+    front_is : (n : ℕ) (own rest all : List ℕ) → n ≡ length own → own ++ rest ≡ all → take n all ≡ own
+    front_is n own rest all long is = ap (take n) (sym is) ∙ take_at own rest n (sym long)
 
-  -- each has its own
-  pub paid_up : (units : List PlanUnit) (sums : List UnitSums) (owed : List ℕ) → Owe units sums owed
-      → SumUpEach (SumsUpUnit is_steady plan) units (paid sums owed)
-  unfolding OweEach SumUpEach paid
-  paid_up [] [] owed each = tt
-  paid_up [] (one ∷ sums) owed each = absurd each
-  paid_up (unit ∷ units) [] owed each = absurd each
-  paid_up (unit ∷ units) (one ∷ sums) owed each =
-      let own = front_is one each.0 each.1 owed each.2.1 each.4 in (
-        subst (λ (pieces : List ℕ). HashesUnits is_steady plan (unit ∷ []) (node_in one ∷ []) pieces)
-            (sym (ap (λ xs. (with_items one.pieces xs).items) own
-            ∙ with_items_is one.pieces each.0 (sym each.2.1 ∙ sym one.pieces.ok.0))) each.2.0,
-        subst (λ (rest : List ℕ). SumUpEach (SumsUpUnit is_steady plan) units (paid sums rest))
-            (sym (rest_is one each.0 each.1 owed each.2.1 each.4)) (paid_up units sums each.1 each.3),
-      )
+    rest_is : (n : ℕ) (own rest all : List ℕ) → n ≡ length own → own ++ rest ≡ all → drop n all ≡ rest
+    rest_is n own rest all long is = ap (drop n) (sym is) ∙ drop_at own rest n (sym long)
 
--- what a unit is told by stays
-pub paid_alike : {B : Type 0} (f : UnitSums → B) → ((one : UnitSums) (own : List ℕ) → f (paid_one one own) ≡ f one)
-    → (sums : List UnitSums) (owed : List ℕ) → map f (paid sums owed) ≡ map f sums
-unfolding paid
-paid_alike f same [] owed = refl
-paid_alike f same (one ∷ sums) owed =
-    ap₂ (λ x xs. x ∷ xs) (same one (take (length one.pieces.items) owed))
-    (paid_alike f same sums (drop (length one.pieces.items) owed))
+    pub can_pay : (units : List PlanUnit) (items : List A) (sums : List ℕ) → OweEach owes units items sums
+        → sum_by owed items ≡ length sums
+    unfolding OweEach
+    can_pay [] [] sums each = sym (ap length each)
+    can_pay [] (one ∷ items) sums each = absurd each
+    can_pay (unit ∷ units) [] sums each = absurd each
+    can_pay (unit ∷ units) (one ∷ items) sums each =
+        let own = fits unit one each.0 each.2 in
+        let rest = can_pay units items each.1 each.3 in
+        let long = ap length each.4 in
+        let joined = length-append each.0 each.1 in
+        sum_by-cons owed one items ∙ ap₂ (λ n m. n + m) own rest ∙ sym joined ∙ long
 
--- ---- one unit after the other
+    -- each has its own
+    pub paid_up : (sums_up : PlanUnit → A → Type 0)
+        → ((unit : PlanUnit) (one : A) (own : List ℕ) → owes unit one own → sums_up unit (paid one own))
+        → (units : List PlanUnit) (items : List A) (sums : List ℕ) → OweEach owes units items sums
+        → SumUpEach sums_up units (paid_each owed paid items sums)
+    unfolding OweEach SumUpEach paid_each
+    paid_up sums_up settled [] [] sums each = tt
+    paid_up sums_up settled [] (one ∷ items) sums each = absurd each
+    paid_up sums_up settled (unit ∷ units) [] sums each = absurd each
+    paid_up sums_up settled (unit ∷ units) (one ∷ items) sums each =
+        let long = fits unit one each.0 each.2 in (
+          subst (λ (own : List ℕ). sums_up unit (paid one own))
+              (sym (front_is (owed one) each.0 each.1 sums long each.4)) (settled unit one each.0 each.2),
+          subst (λ (rest : List ℕ). SumUpEach sums_up units (paid_each owed paid items rest))
+              (sym (rest_is (owed one) each.0 each.1 sums long each.4))
+              (paid_up sums_up settled units items each.1 each.3),
+        )
 
-pub paid_none : (owed : List ℕ) → paid [] owed ≡ []
-unfolding paid
-paid_none owed = refl
+  -- ---- one after the other: the one at an index, where the list has one
 
-module _ (sums : List UnitSums) (i : ℕ) (one : UnitSums) (rest : List ℕ) (there : i < length sums)
-    (at : one ≡ get_or sums i one) where
-  left : drop i sums ≡ one ∷ drop (i + 1) sums
-  left = drop_more sums i one there ∙ ap (λ a. a ∷ drop (i + 1) sums) (sym at)
+  module _ (items : List A) (i : ℕ) (default : A) (rest : List ℕ) (there : i < length items) where
+    abbrev one : A
+    one = get_or items i default
 
-  both_fit : CanPay (drop i sums) rest → CanPay (one ∷ drop (i + 1) sums) rest
-  both_fit = subst (λ (xs : List UnitSums). CanPay xs rest) left
+    all_left : sum_by owed (drop i items) ≡ owed one + sum_by owed (drop (i + 1) items)
+    all_left = ap (sum_by owed) (drop_more items i default there) ∙ sum_by-cons owed one (drop (i + 1) items)
 
-  pub first_fits : CanPay (drop i sums) rest → length one.pieces.items ≤ length rest
-  unfolding CanPay
-  first_fits enough = (both_fit enough).0
+    pub first_fits : sum_by owed (drop i items) ≤ length rest → owed one ≤ length rest
+    first_fits enough = omega (arith, enough, all_left)
 
-  rest_fits : CanPay (drop i sums) rest → CanPay (drop (i + 1) sums) (drop (length one.pieces.items) rest)
-  unfolding CanPay
-  rest_fits enough = (both_fit enough).1
+    first_paid : paid_each owed paid (drop i items) rest
+        ≡ paid one (take (owed one) rest) ∷ paid_each owed paid (drop (i + 1) items) (drop (owed one) rest)
+    unfolding paid_each
+    first_paid = ap (λ xs. paid_each owed paid xs rest) (drop_more items i default there)
 
-  first_paid : paid (drop i sums) rest ≡ paid_one one (take (length one.pieces.items) rest)
-      ∷ paid (drop (i + 1) sums) (drop (length one.pieces.items) rest)
-  unfolding paid
-  first_paid = ap (λ xs. paid xs rest) left
+    pub paid_more : (new : A) (later : List ℕ) (all : List A) (end : List ℕ)
+        → new ≡ paid one (take (owed one) rest) → later ≡ drop (owed one) rest
+        → sum_by owed (drop i items) ≤ length rest → take i items ++ paid_each owed paid (drop i items) rest ≡ all
+        → drop (sum_by owed (drop i items)) rest ≡ end
+        → (sum_by owed (drop (i + 1) (set items i new)) ≤ length later)
+        × (take (i + 1) (set items i new) ++ paid_each owed paid (drop (i + 1) (set items i new)) later ≡ all)
+        × (drop (sum_by owed (drop (i + 1) (set items i new))) later ≡ end)
+    paid_more new later all end is_new is_later enough before after =
+        let same : drop (i + 1) (set items i new) ≡ drop (i + 1) items =
+        drop-set-lt (i + 1) items i new (omega arith) in
+        let sum = all_left in
+        let long : length later ≡ length (drop (owed one) rest) = ap length is_later in
+        let dropped = length-drop (owed one) rest in
+        let total = ap (sum_by owed) same in (
+          omega (arith, enough, sum, long, dropped, total),
+          ap₂ (λ xs ys. xs ++ paid_each owed paid ys later) (take_more_set items i new there) same
+              ∙ append_assoc (take i items) (new ∷ []) (paid_each owed paid (drop (i + 1) items) later)
+              ∙ ap₂ (λ a xs. take i items ++ a ∷ paid_each owed paid (drop (i + 1) items) xs) is_new is_later
+              ∙ ap (λ xs. take i items ++ xs) (sym first_paid) ∙ before,
+          ap₂ (λ n xs. drop n xs) total is_later
+              ∙ drop-drop (sum_by owed (drop (i + 1) items)) (owed one) rest
+              ∙ ap (λ n. drop n rest) (sym sum) ∙ after,
+        )
 
-pub paid_more : (sums : List UnitSums) (i : ℕ) (one new : UnitSums) (rest later : List ℕ) (all : List UnitSums)
-    → i < length sums → one ≡ get_or sums i one → new ≡ paid_one one (take (length one.pieces.items) rest)
-    → later ≡ drop (length one.pieces.items) rest → CanPay (drop i sums) rest
-    → all ≡ take i sums ++ paid (drop i sums) rest
-    → (i + 1 ≤ length (set sums i new)) × CanPay (drop (i + 1) (set sums i new)) later
-    × (all ≡ take (i + 1) (set sums i new) ++ paid (drop (i + 1) (set sums i new)) later)
-paid_more sums i one new rest later all there at is_new is_later enough before =
-    let same : drop (i + 1) (set sums i new) ≡ drop (i + 1) sums = drop-set-lt (i + 1) sums i new (omega arith) in
-    let long = length-set sums i new in (
-      omega (arith, there, long),
-      subst (λ (xs : List UnitSums). CanPay xs later) (sym same)
-          (subst (CanPay (drop (i + 1) sums)) (sym is_later) (rest_fits sums i one rest there at enough)),
-      before ∙ ap (λ xs. take i sums ++ xs) (first_paid sums i one rest there at)
-          ∙ ap₂ (λ a xs. take i sums ++ a ∷ paid (drop (i + 1) sums) xs) (sym is_new) (sym is_later)
-          ∙ sym (append_assoc (take i sums) (new ∷ []) (paid (drop (i + 1) sums) later))
-          ∙ ap₂ (λ xs ys. xs ++ paid ys later) (sym (take_more_set sums i new there)) (sym same),
-    )
+-- a unit that has its own sums up
+pub unit_settled : {F : Type 0} (is_steady : SourceFacts F → Type 0) (plan : PlanFacts) (unit : PlanUnit)
+    (one : UnitSums) (own : List ℕ) → OwesUnit is_steady plan unit one own
+    → SumsUpUnit is_steady plan unit (paid_one one own)
+unit_settled is_steady plan unit one own owes =
+    subst (λ (pieces : List ℕ). HashesUnits is_steady plan (unit ∷ []) (node_in one ∷ []) pieces)
+    (sym (with_items_is one.pieces own (sym owes.1 ∙ sym one.pieces.ok.0))) owes.0

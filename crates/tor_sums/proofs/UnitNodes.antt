@@ -21,7 +21,7 @@ use Rattle.tor_sums.specs.declared.worker.WorkerSums.{WorkerSums}
 use Rattle.tor_sums.specs.steps.Hashes.{Node, bytes_of_part, level_in, level_of, node_of_part, node_over}
 use Rattle.tor_sums.specs.steps.Hashes.{nodes_of_unit}
 use Rattle.tor_sums.specs.steps.Reads.{HaveRead, PartRead}
-use Rattle.tor_sums.specs.steps.Run.{HasRoomAt, IsUnitOf, ReadsUnit}
+use Rattle.tor_sums.specs.steps.Run.{HasRoomAt, IsUnitOf, TakesUnit}
 use Rattle.tor_sums.proofs.Parts.{size_of, some_bytes}
 
 -- ---- contents that have what was read of one part
@@ -99,11 +99,11 @@ module _ (plan : PlanFacts) (unit : PlanUnit) (is : IsUnitOf plan unit) (trees :
       ∙ ap (map (node_of_part plan.piece_length below contents)) parts_are)
 
   -- what was read has room at the level of the unit
-  pub room_of_unit : {F : Type 0} (is_steady : SourceFacts F → Type 0) (before : List ℕ) (sums : WorkerSums)
-      (read : Option Feeding) (tree : Feeding) (k : ℕ) → ReadsUnit is_steady plan unit before sums read
+  pub room_of_unit : {F : Type 0} (is_steady : SourceFacts F → Type 0) (own : List ℕ) (read : Option Feeding)
+      (tree : Feeding) (k : ℕ) → TakesUnit is_steady plan unit read own
       → read ≡ Some tree
       → HasRoomAt plan.piece_length (unit_length unit) k → HasRoomAt tree.piece_length (length tree.bytes) k
-  room_of_unit is_steady before sums read tree k reads found room =
+  room_of_unit is_steady own read tree k reads found room =
       let given = have_one part reads.reads (reads.are.each ∙ parts_are) reads.are.whole in
       let bytes = bytes_of_part given.0 part in
       let same : Some tree ≡ Some (feeding bytes) =

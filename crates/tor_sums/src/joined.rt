@@ -18,7 +18,7 @@ pub fn append<T: Drop>(items: &mut Vec<T>, next: Vec<T>) -> Result<(), AllocErro
 }
 
 /// What each of some units has, one after the other.
-pub fn items_of_each<'a, T, U: Copy + 'a, F: Fn(&'a T) -> &'a [U]>(
+pub(crate) fn items_of_each<'a, T, U: Copy + 'a, F: Fn(&'a T) -> &'a [U]>(
     alloc: Global,
     units: &'a [T],
     items_of: F,

@@ -3,12 +3,13 @@
 //! - [`Sums`] (`sums.rt`): lengths, roots, layers and pieces of the files of a plan; [`sums_of_units`] puts them
 //!   together from what its units sum up to, and [`sums_with`] from what those of readers do. [`trees_of`] (`trees.rt`)
 //!   goes from one file to the next for it ([`FileTrees`], [`Trees`]). `joined.rt` joins what units have
-//!   ([`items_of_each`], [`pieces_of_units`], [`append`]), and `places.rt` puts it in the order of their numbers
+//!   ([`pieces_of_units`], [`append`]), and `places.rt` puts it in the order of their numbers
 //!   ([`put_in_order`]).
 //! - [`UnitSums`] (`unit_sums.rt`): the hash, the part of the layer and the SHA-1s of a unit. [`sum_unit`] reads a unit
 //!   of a source and tells them. The sums of a unit's pieces may wait for those of the units after it: a worker owes
-//!   them ([`OwingSums`], `owing.rt`), and pays them when it has no more units ([`pay`], `paying.rt`).
-//! - [`hash_unit`] (`unit_hash.rt`) reads a unit and hashes it by itself, whatever files it is of. `reading.rt` has one
+//!   them ([`OwingSums`], `owing.rt`), and pays them when it has no more units ([`pay`],
+//!   [`Owed`], `paying.rt`).
+//! - [`read_tree`] (`unit_hash.rt`) reads a unit and gives its tree, whatever files it is of. `reading.rt` has one
 //!   part read of the source ([`FileBytes`], `file_bytes.rt`), and [`WorkerSums`] (`worker.rt`) holds what was read and
 //!   not hashed (`room.rt`), and the hashes of what came before.
 //! - [`ContentHasher`] (`hasher.rt`): what a content hashes to, while its bytes come ([`Hashed`]).
@@ -37,12 +38,12 @@ pub use errors::EngineError;
 pub use file_bytes::FileBytes;
 pub use hasher::{ContentHasher, Hashed, feed_zeros};
 pub use how::{How, MAX_WORKERS};
-pub use joined::{append, items_of_each, pieces_of_units};
+pub use joined::{append, pieces_of_units};
 pub use owing::OwingSums;
-pub use paying::pay;
+pub use paying::{Owed, pay};
 pub use places::put_in_order;
 pub use sums::{Sums, sums_of_units, sums_with};
 pub use trees::{FileTrees, Trees, trees_of};
-pub use unit_hash::hash_unit;
+pub use unit_hash::read_tree;
 pub use unit_sums::{UnitSums, node_over_pieces, sum_unit, unit_length};
 pub use worker::WorkerSums;

@@ -1,29 +1,46 @@
-//! Units that get the sums of their pieces.
-ghost use Rattle.std.specs.Prelude.{◌≡◌, ◌≤◌, drop, length, take};
-ghost use Rattle.tor_sums.specs.steps.Owing.{CanPay, paid, paid_one};
+//! Sums of pieces that are owed, and given to what they are owed to.
+ghost use Rattle.std.specs.Prelude.{◌≡◌, ◌≤◌, ℕ, List, drop, length, sum_by, take};
+ghost use Rattle.tor_sums.specs.steps.Owing.{owed_to_unit, paid_each, paid_one};
 
 use crate::unit_sums::UnitSums;
 
-/// Gives each unit its own of these sums, which stand one after another: as many as it has room for.
-pub fn pay(sums: &mut Vec<UnitSums>, owed: &[u8])
-    requires { CanPay sums.old.items owed.now }
-    ensures { sums.new.items ≡ paid sums.old.items owed.now }
-{
-    let mut rest = owed;
-    let mut index = 0;
-    'units: while index < sums.len() {
-        rest = pay_one(&mut sums[index], rest);
-        index += 1;
-    }
+/// What sums of pieces are owed to: a unit, or a piece.
+pub trait Owed {
+    /// How many bytes of sums.
+    ghost owed: { Self → ℕ };
+
+    /// What it is once it has these.
+    ghost paid: { Self → List ℕ → Self };
+
+    /// Takes its own of these sums, the first ones, and gives back the sums after them.
+    fn take_own<'a>(&mut self, sums: &'a [u8]) -> &'a [u8]
+        requires { owed self.old ≤ length sums.now }
+        ensures paid { self.new ≡ paid self.old (take (owed self.old) sums.now) }
+        ensures rest { result.now ≡ drop (owed self.old) sums.now };
 }
 
-/// Gives one unit its own of these sums, and gives back the sums after them.
-fn pay_one<'a>(one: &mut UnitSums, owed: &'a [u8]) -> &'a [u8]
-    requires { length one.old.pieces.items ≤ length owed.now }
-    ensures paid { one.new ≡ paid_one one.old (take (length one.old.pieces.items) owed.now) }
-    ensures rest { result.now ≡ drop (length one.old.pieces.items) owed.now }
+/// Gives each its own of these sums, which stand one after another, and gives back the sums after them.
+pub fn pay<'a, T: Owed>(items: &mut [T], sums: &'a [u8]) -> &'a [u8]
+    requires { sum_by T.owed items.old ≤ length sums.now }
+    ensures paid { items.new ≡ paid_each T.owed T.paid items.old sums.now }
+    ensures rest { result.now ≡ drop (sum_by T.owed items.old) sums.now }
 {
-    let (own, rest) = owed.split_at(one.pieces.len());
-    one.pieces.as_mut_slice().copy_from_slice(own);
+    let mut rest = sums;
+    'items: for item in items.iter_mut() {
+        rest = item.take_own(rest);
+    }
     rest
+}
+
+/// It has room for its own.
+impl Owed for UnitSums {
+    ghost owed = { owed_to_unit };
+
+    ghost paid = { paid_one };
+
+    fn take_own<'a>(&mut self, sums: &'a [u8]) -> &'a [u8] {
+        let (own, rest) = sums.split_at(self.pieces.len());
+        self.pieces.as_mut_slice().copy_from_slice(own);
+        rest
+    }
 }

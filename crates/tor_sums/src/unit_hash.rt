@@ -1,18 +1,20 @@
-//! One unit read and hashed.
-ghost use Rattle.std.specs.Prelude.{◌≡◌, [], ℕ, All, List, None, IfErr, IfOk, MatchResult};
+//! One unit read, and its tree.
+ghost use Rattle.std.specs.Prelude.{◌≡◌, ◌++◌, [], ℕ, All, List, None, IfErr, IfOk, MatchResult};
 ghost use Rattle.tor_plan.specs.PlanFacts.{IsPlan};
 ghost use Rattle.tor_plan.specs.WithinEntries.{IsInFile};
 ghost use Rattle.tor_source.specs.Source.{SourceFacts};
 ghost use Rattle.tor_sums.specs.Fault.{IsFault, unit_fault};
 ghost use Rattle.tor_sums.specs.steps.Given.{IsGivenRead};
 ghost use Rattle.tor_sums.specs.steps.Reads.{HasParts};
-ghost use Rattle.tor_sums.specs.steps.Run.{HashesUnit, IsUnitOf, ReadsUnit};
+ghost use Rattle.tor_sums.specs.steps.Run.{IsUnitOf, ReadsUnit, TakesUnit};
+ghost use Rattle.tor_sums.specs.steps.Owing.{Owes};
 ghost use Rattle.tor_sums.specs.steps.Worker.{IsFresh, IsTreed};
 
 use crate::errors::EngineError;
 use crate::file_bytes::FileBytes;
-use crate::hasher::Hashed;
+use crate::owing::OwingSums;
 use crate::reading::read_part;
+use crate::unit_sums::unit_length;
 use crate::worker::WorkerSums;
 use std::alloc::Global;
 use tor_merkle::FedTree;
@@ -53,28 +55,29 @@ pub(crate) fn read_unit<S: FileBytes>(
     Ok(tree)
 }
 
-/// What the bytes of one unit hash to, with no unit before it.
-pub fn hash_unit<S: FileBytes>(
+/// Reads one unit, and gives its tree, none in V1. The worker owes it the SHA-1s of its pieces.
+pub fn read_tree<S: FileBytes>(
     alloc: Global,
     source: &S,
     plan: &Plan,
     unit: &PlanUnit,
-    sums: &mut WorkerSums,
-) -> Result<Hashed, EngineError<S::Fault>>
+    worker: &mut OwingSums,
+) -> Result<Option<FedTree>, EngineError<S::Fault>>
     requires planned { IsPlan plan.now }
     requires unit { IsUnitOf plan.now unit.now }
-    requires fresh { IsFresh plan.now [] sums.old }
-    ensures fresh { IfOk result (λ _. IsFresh plan.now [] sums.new) }
-    ensures hashed { IfOk result (HashesUnit (S.is_steady source.now) plan.now unit.now) }
+    requires owing { (owed : List ℕ) × Owes plan.now owed worker.old }
+    ensures owing { (owed : List ℕ) → Owes plan.now owed worker.old → IfOk result (λ tree. (own : List ℕ)
+        × TakesUnit (S.is_steady source.now) plan.now unit.now tree own × Owes plan.now (owed ++ own) worker.new) }
     ensures fault { (facts : SourceFacts S.Fault) → S.is_steady source.now facts → HasParts facts unit.now.parts →
         MatchResult result (λ _. unit_fault facts unit.now ≡ None) (IsFault (unit_fault facts unit.now)) }
     ensures gave { (lengths : List ℕ) → All (IsInFile lengths) unit.now.parts →
         IfErr result (IsGivenRead (S.answers source.now) lengths) }
 {
-    let tree = match read_unit(alloc, source, plan, unit, sums) {
+    let tree = match read_unit(alloc, source, plan, unit, &mut worker.sums) {
         Ok(tree) => tree,
         Err(error) => return Err(error),
     };
-    let pieces = sums.end_pieces(alloc, plan)?;
-    Ok(Hashed { tree, pieces })
+    let count = unit_length(unit);
+    worker.end_unit(alloc, plan, count)?;
+    Ok(tree)
 }

@@ -18,7 +18,10 @@ use Rattle.tor_engine.specs.PieceFault.{pieces_fault}
 use Rattle.tor_engine.specs.PieceHashes.{hash_if_there}
 use Rattle.tor_engine.specs.There.{HaveHashesOf}
 use Rattle.tor_sums.specs.declared.errors.EngineError.{EngineError}
+use Rattle.tor_engine.specs.declared.piece_hash.FoundPiece.{FoundPiece}
+use Rattle.tor_engine.specs.declared.piece_hash.FoundPiece.TheVariants.{Hashed, Missing, Unsummed}
 use Rattle.tor_engine.specs.declared.piece_hash.PieceHash.{PieceHash}
+use Rattle.tor_engine.specs.declared.piece_hash.TheConstants.{SUM_LENGTH}
 use Rattle.tor_sums.specs.steps.Hashes.{bytes_of_part}
 use Rattle.tor_sums.specs.steps.Run.{IsUnitOf}
 
@@ -33,6 +36,26 @@ abbrev pub HasPieces : ℕ → List (List ℕ) → List Part → Type 0
 HasPieces piece_length contents parts =
     AllByRecursion (λ part. (0 < length (bytes_of_part contents part))
     × (length (bytes_of_part contents part) ≤ piece_length)) parts
+
+-- ---- of a piece whose SHA-1 is owed
+
+-- the hashes of a piece, as far as they are known
+abbrev pub hashes_in : FoundPiece → Option PieceHash
+hashes_in Missing = None
+hashes_in (Hashed hashes) = Some hashes
+hashes_in (Unsummed v2) = Some (record { v1 = None; v2 = v2 })
+
+-- how many bytes are owed to it
+abbrev pub owed_to_piece : FoundPiece → ℕ
+owed_to_piece Missing = 0
+owed_to_piece (Hashed hashes) = 0
+owed_to_piece (Unsummed v2) = SUM_LENGTH
+
+-- it, with these
+abbrev pub paid_piece : FoundPiece → List ℕ → FoundPiece
+paid_piece Missing own = Missing
+paid_piece (Hashed hashes) own = Hashed hashes
+paid_piece (Unsummed v2) own = Hashed (record { v1 = Some own; v2 = v2 })
 
 -- ---- of any unit
 

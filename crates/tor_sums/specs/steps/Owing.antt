@@ -1,6 +1,6 @@
 -- What a worker owes: the sums of the pieces of units that were hashed.
 -- Only clauses of the crates that hash cite these.
-use Rattle.std.specs.Prelude.{◌≡◌, ◌⊎◌, ◌*◌, ◌≤◌, ℕ, List, [], ◌∷◌, ◌++◌, drop, length, take, if◌then◌else◌}
+use Rattle.std.specs.Prelude.{◌≡◌, ◌⊎◌, ◌*◌, ℕ, List, [], ◌∷◌, ◌++◌, drop, length, take, if◌then◌else◌}
 use Rattle.std.specs.Vec.{with_items}
 use Rattle.tor_plan.specs.PlanFacts.{PlanFacts}
 use Rattle.tor_tree.specs.Kinds.{has_v1}
@@ -39,14 +39,12 @@ abbrev pub paid_one : UnitSums → List ℕ → UnitSums
 paid_one one own =
     record { unit = one.unit; hash = one.hash; layer = one.layer; pieces = with_items one.pieces own }
 
--- units with the sums of their pieces, which stand one after another
-unfoldable pub paid : List UnitSums → List ℕ → List UnitSums
-paid [] owed = []
-paid (one ∷ sums) owed =
-    paid_one one (take (length one.pieces.items) owed) ∷ paid sums (drop (length one.pieces.items) owed)
+-- items with the sums that are owed to each, so many bytes of them, which stand one after another
+unfoldable pub paid_each : {A : Type 0} → (A → ℕ) → (A → List ℕ → A) → List A → List ℕ → List A
+paid_each owed paid [] sums = []
+paid_each owed paid (one ∷ items) sums =
+    paid one (take (owed one) sums) ∷ paid_each owed paid items (drop (owed one) sums)
 
--- there are as many
-unfoldable pub CanPay : List UnitSums → List ℕ → Type 0
-CanPay [] owed = Unit {0}
-CanPay (one ∷ sums) owed =
-    (length one.pieces.items ≤ length owed) × CanPay sums (drop (length one.pieces.items) owed)
+-- what is owed to a unit: as many bytes as it has room for
+abbrev pub owed_to_unit : UnitSums → ℕ
+owed_to_unit one = length one.pieces.items

@@ -41,15 +41,6 @@ pub record AreSumsOfUnits (plan : PlanFacts) (contents : List (List ℕ)) (units
   pub bare : has_v2 plan.kind ≡ false → given ≡ map (λ _. bare_node) units
   pub pieces : sums ≡ sums_of_units plan.kind plan.piece_length contents units
 
--- a unit was read, and hashes to this, as it does in any contents that have what was read
-pub record HashesUnit {F : Type 0} (is_steady : SourceFacts F → Type 0) (plan : PlanFacts) (unit : PlanUnit)
-    (hashed : Hashed) : Type 0 where
-  pub reads : List PartRead
-  pub are : AreReads is_steady plan unit.parts reads
-  pub hashes : (contents : List (List ℕ)) → HaveRead contents reads
-      → AreHashesOf plan.kind plan.piece_length (flat_map (bytes_of_part contents) unit.parts)
-      (unit_content contents unit) hashed
-
 -- a unit was read after these bytes, and has this tree, as it has in any contents that have what was read; its bytes
 -- and zeros go on with the bytes before
 pub record ReadsUnit {F : Type 0} (is_steady : SourceFacts F → Type 0) (plan : PlanFacts) (unit : PlanUnit)
@@ -62,6 +53,19 @@ pub record ReadsUnit {F : Type 0} (is_steady : SourceFacts F → Type 0) (plan :
   pub long : length joined ≡ unit_length unit
   pub same : (contents : List (List ℕ)) → HaveRead contents reads → unit_content contents unit ≡ joined
   pub fresh : IsFresh plan (before ++ joined) sums
+
+-- a unit was read, and has this tree and these joined SHA-1s of its pieces, as it has in any contents that have what
+-- was read
+pub record TakesUnit {F : Type 0} (is_steady : SourceFacts F → Type 0) (plan : PlanFacts) (unit : PlanUnit)
+    (tree : Option Feeding) (own : List ℕ) : Type 0 where
+  pub reads : List PartRead
+  pub are : AreReads is_steady plan unit.parts reads
+  pub trees : (contents : List (List ℕ)) → HaveRead contents reads
+      → IsTreeOf plan.kind plan.piece_length (flat_map (bytes_of_part contents) unit.parts) tree
+  pub joined : List ℕ
+  pub long : length joined ≡ unit_length unit
+  pub same : (contents : List (List ℕ)) → HaveRead contents reads → unit_content contents unit ≡ joined
+  pub is_own : own ≡ (if has_v1 plan.kind then piece_sums plan.piece_length joined else [])
 
 -- units were read, and these are the sums of any contents that have what was read
 pub record HashesUnits {F : Type 0} (is_steady : SourceFacts F → Type 0) (plan : PlanFacts) (units : List PlanUnit)

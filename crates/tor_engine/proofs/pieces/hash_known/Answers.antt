@@ -8,7 +8,7 @@ use Rattle.tor_plan.specs.declared.units.PlanUnit.{PlanUnit}
 use Rattle.tor_sums.specs.Contents.{contents_in}
 use Rattle.tor_engine.specs.There.{is_within}
 use Rattle.tor_engine.specs.steps.Asked.{first_again_fault}
-use Rattle.tor_engine.specs.steps.Pieces.{IsUnitToHash, first_unit_fault, unit_hashes}
+use Rattle.tor_engine.specs.steps.Pieces.{IsUnitToHash, first_unit_fault, hashes_in, unit_hashes}
 use Rattle.tor_engine.proofs.AllPieces.{all_hashes, are_told, fault_after, hashes_counted, hashes_joined, hashes_there}
 use Rattle.tor_engine.proofs.AskedLengths.{again_same, same_again}
 use Rattle.tor_engine.proofs.PlanPieces.{units_to_hash}
@@ -42,7 +42,7 @@ returns-clause-hashed g c = λ facts steady told none.
     let contents = contents_in facts (length plan.lengths) in
     let sizes = c.args.known.now.lengths.items in
     let known = are_told facts sizes (length plan.lengths) told in (
-      c.in_ok-joined.ensures ∙ ap (flat_map (λ one. one.hashes.items)) c.deref-2.ensures.value
+      c.in_ok-joined.ensures ∙ ap (flat_map (λ one. map hashes_in one.pieces.items)) c.deref-2.ensures.value
           ∙ hashes_joined (g.S.Source.is_steady c.args.source.now) plan sizes facts steady known _ _
           c.in-Ok.ensures.summed
           ∙ ap (flat_map (unit_hashes plan contents)) c.units-units.ensures.value ∙ all_hashes plan contents,
@@ -54,7 +54,7 @@ pub returns-clause-there : goal.returns-clause-there
 returns-clause-there g c =
     let plan = c.args.plan.now in
     let sizes = c.args.known.now.lengths.items in
-    ap (map is_some) (c.in_ok-joined.ensures ∙ ap (flat_map (λ one. one.hashes.items)) c.deref-2.ensures.value)
+    ap (map is_some) (c.in_ok-joined.ensures ∙ ap (flat_map (λ one. map hashes_in one.pieces.items)) c.deref-2.ensures.value)
     ∙ hashes_there (g.S.Source.is_steady c.args.source.now) plan sizes _ _ c.in-Ok.ensures.summed
     ∙ ap (λ units. map (is_within sizes) (flat_map (pieces_of_unit plan.piece_length) units))
     c.units-units.ensures.value
@@ -62,7 +62,7 @@ returns-clause-there g c =
 pub returns-clause-counted : goal.returns-clause-counted
 returns-clause-counted g c =
     let plan = c.args.plan.now in
-    ap length (c.in_ok-joined.ensures ∙ ap (flat_map (λ one. one.hashes.items)) c.deref-2.ensures.value)
+    ap length (c.in_ok-joined.ensures ∙ ap (flat_map (λ one. map hashes_in one.pieces.items)) c.deref-2.ensures.value)
     ∙ hashes_counted c.args.known.now.lengths.items _ _
     (hashes_there (g.S.Source.is_steady c.args.source.now) plan c.args.known.now.lengths.items _ _
     c.in-Ok.ensures.summed)

@@ -7,7 +7,6 @@ use Rattle.tor_tree.specs.Kinds.{has_v1, has_v2}
 use Rattle.tor_tree.specs.declared.kinds.Kind.{Kind}
 use Rattle.tor_sums.specs.Hasher.{IsTreeOf}
 use Rattle.tor_v1.specs.Piece.{piece_sums}
-use Rattle.tor_sums.specs.steps.Owing.{sums_of}
 use Rattle.tor_sums.proofs.PartReads.{reads_as}
 use Rattle.tor_sums.proofs.UnitNodes.{node_of_unit, room_of_unit}
 use Rattle.tor_sums.proofs.unit_sums.sum_unit.Goals as goal
@@ -17,24 +16,20 @@ no_tree : (kind : Kind) (p : ℕ) (bytes : List ℕ) (tree : Option Feeding) →
 no_tree kind p bytes tree none is =
     is ∙ ap (λ b. cond b (Some (record { piece_length = p; bytes = bytes })) None) none
 
-pub read_unit-requires-clause-fresh : goal.read_unit-requires-clause-fresh
-read_unit-requires-clause-fresh g c = (c.requires.owing.1.before, c.requires.owing.1.fresh)
-
 pub new-requires : goal.new-requires
 new-requires g c = λ tree found level at.
     let room = c.requires.unit.room level (c.level_in.ensures.tree level at) in
-    let owes = c.requires.owing.1 in
+    let took = c.in-Ok.ensures.owing c.requires.owing.0 c.requires.owing.1 in
     room_of_unit c.args.plan.now c.args.unit.now c.requires.unit.within room.0
-    (g.S.FileBytes.is_steady c.args.source.now) owes.before c.read_unit.new.sums c.in-Ok.tree tree level
-    (c.in-Ok.ensures.read owes.before owes.fresh) found room.1
+    (g.S.FileBytes.is_steady c.args.source.now) took.0 c.in-Ok.tree tree level took.1 found room.1
 
 pub returns-clause-owing : goal.returns-clause-owing
 returns-clause-owing g c = λ owed owes.
     let unit = c.args.unit.now in
     let plan = c.args.plan.now in
-    let read = c.in-Ok.ensures.read owes.before owes.fresh in
-    let long = read.long ∙ sym c.unit_length-count.ensures in (
-      sums_of plan read.joined,
+    let took = c.in-Ok.ensures.owing owed owes in
+    let read = took.1 in (
+      took.0,
       (
         record {
           reads = read.reads;
@@ -47,18 +42,14 @@ returns-clause-owing g c = λ owed owes.
                     c.in-Ok.tree tree c.new.ensures.node c.level_in.ensures.level;
                 bare = λ none. ap (λ n. n ∷ []) (c.new.ensures.bare
                     (no_tree plan.kind plan.piece_length _ c.in-Ok.tree none tree));
-                pieces = ap (λ xs. cond (has_v1 plan.kind) xs [])
+                pieces = read.is_own ∙ ap (λ xs. cond (has_v1 plan.kind) xs [])
                     (ap (piece_sums plan.piece_length) (sym (read.same contents have))
                     ∙ sym (append-nil (piece_sums plan.piece_length (unit_content contents unit))));
               };
         },
-        ap (λ pieces. length pieces.items) c.new.ensures.pieces ∙ c.in_ok-pieces.ensures read.joined long,
+        ap (λ pieces. length pieces.items) c.new.ensures.pieces
+            ∙ c.in_ok-pieces.ensures read.joined (read.long ∙ sym c.unit_length.ensures)
+            ∙ sym (ap length read.is_own),
       ),
-      c.in_ok-end_unit.ensures owed read.joined (record {
-        before = owes.before;
-        fresh = read.fresh;
-        is_owed = owes.is_owed;
-        whole = owes.whole;
-        either = owes.either;
-      }) long,
+      took.2,
     )

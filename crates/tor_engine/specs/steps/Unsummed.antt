@@ -1,0 +1,40 @@
+-- Pieces that were found while their SHA-1s are owed. Only private clauses cite these.
+use Rattle.std.specs.Prelude.{◌≡◌, ℕ, List, length, is_some, sum_by, Option}
+use Rattle.std.specs.Vec.{with_items}
+use Rattle.tor_plan.specs.Pieces.{pieces_of_unit}
+use Rattle.tor_plan.specs.PlanFacts.{PlanFacts}
+use Rattle.tor_plan.specs.declared.units.PlanUnit.{PlanUnit}
+use Rattle.tor_source.specs.Source.{SourceFacts}
+use Rattle.tor_sums.specs.Contents.{contents_in}
+use Rattle.tor_sums.specs.steps.Each.{OweEach}
+use Rattle.tor_sums.specs.steps.Owing.{paid_each}
+use Rattle.tor_engine.specs.PieceHashes.{hash_if_there}
+use Rattle.tor_engine.specs.There.{is_within}
+use Rattle.tor_engine.specs.declared.piece_hash.FoundPiece.{FoundPiece}
+use Rattle.tor_engine.specs.declared.piece_work.UnitPieces.{UnitPieces}
+use Rattle.tor_engine.specs.steps.Pieces.{AreTold, hashes_in, owed_to_piece, paid_piece}
+
+-- this was found of a piece of files with these lengths, and so much is owed to it: of a steady source it has then the
+-- hashes of what the source has, and of any source it is there just if the lengths say so
+pub record FindsPiece {F : Type 0} (is_steady : SourceFacts F → Type 0) (plan : PlanFacts) (told : List (Option ℕ))
+    (piece : PlanUnit) (found : FoundPiece) (own : List ℕ) : Type 0 where
+  pub steady : (facts : SourceFacts F) → is_steady facts
+      → AreTold told (contents_in facts (length plan.lengths))
+      → hashes_in (paid_piece found own) ≡ hash_if_there plan (contents_in facts (length plan.lengths)) piece
+  pub there : is_some (hashes_in found) ≡ is_within told piece
+  pub long : owed_to_piece found ≡ length own
+
+-- what is owed to the pieces of a unit
+abbrev pub owed_to_pieces : UnitPieces → ℕ
+owed_to_pieces one = sum_by owed_to_piece one.pieces.items
+
+-- the unit, with these
+abbrev pub paid_pieces : UnitPieces → List ℕ → UnitPieces
+paid_pieces one own =
+    record { unit = one.unit; pieces = with_items one.pieces (paid_each owed_to_piece paid_piece one.pieces.items own) }
+
+-- these were found of the pieces of a unit, and so much is owed to them
+abbrev pub OwePieces : {F : Type 0} → (SourceFacts F → Type 0) → PlanFacts → List (Option ℕ) → PlanUnit → UnitPieces
+    → List ℕ → Type 0
+OwePieces is_steady plan told unit one own =
+    OweEach (FindsPiece is_steady plan told) (pieces_of_unit plan.piece_length unit) one.pieces.items own
