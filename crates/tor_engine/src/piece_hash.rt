@@ -87,7 +87,8 @@ pub(crate) fn piece_of_tree(plan: &Plan, piece: &PlanUnit, tree: Option<FedTree>
     requires { IsPiece plan.now piece.now }
     ensures hashes { (contents : List (List ℕ)) (own : List ℕ) → is_there contents piece.now ≡ true →
         IsTreeOf plan.now.kind plan.now.piece_length (flat_map (bytes_of_part contents) piece.now.parts) tree →
-        own ≡ (if has_v1 plan.now.kind then piece_sums plan.now.piece_length (unit_content contents piece.now) else []) →
+        own ≡ (if has_v1 plan.now.kind
+        then piece_sums plan.now.piece_length (unit_content contents piece.now) else []) →
         hashes_in (paid_piece result own) ≡ Some (piece_hash plan.now contents piece.now) }
     ensures owed { owed_to_piece result ≡ (if has_v1 plan.now.kind then SUM_LENGTH else 0) }
     ensures there { is_some (hashes_in result) ≡ true }

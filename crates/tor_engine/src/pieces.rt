@@ -1,5 +1,6 @@
 //! The pieces of a plan hashed, of files that may be cut short or missing, and the lengths of these files.
-ghost use Rattle.std.specs.Prelude.{◌≡◌, ◌++◌, None, IfErr, IfOk, IsSome, MatchResult, OnOk, length, map, nat_le};
+ghost use Rattle.std.specs.Prelude.{◌≡◌, ◌++◌, ℕ, List, None, Option, IfErr, IfOk, IsSome, MatchResult, OnOk, length, map};
+ghost use Rattle.std.specs.Prelude.{nat_le};
 ghost use Rattle.std.specs.List.{flat_map, list_any};
 ghost use Rattle.tor_source.specs.Source.{SourceFacts};
 ghost use Rattle.tor_sums.specs.Contents.{contents_in};
@@ -51,6 +52,8 @@ pub fn hash_pieces<S: Source, R: Threads + Sync>(
         (λ hashes. (hashes.items ≡ piece_hashes plan.now (contents_in facts (length plan.now.lengths)))
         × (first_piece_fault facts plan.now ≡ None))
         (IsFault (first_piece_fault facts plan.now)) }
+    ensures there { IfOk result (λ hashes. (lengths : List (Option ℕ)) × HasTold (S.answers source.now) lengths
+        × HasHashesWithin plan.now lengths hashes.items) }
     ensures counted { IfOk result (λ hashes. length hashes.items ≡ length (pieces_of_plan plan.now)) }
     ensures gave { IfErr result (IsGivenPieces (S.answers source.now) (length plan.now.lengths)) }
 {

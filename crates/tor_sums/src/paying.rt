@@ -4,7 +4,8 @@ ghost use Rattle.tor_sums.specs.steps.Owing.{owed_to_unit, paid_each, paid_one};
 
 use crate::unit_sums::UnitSums;
 
-/// What sums of pieces are owed to: a unit, or a piece.
+/// What sums of pieces are owed to: `UnitSums` (below); of a recheck `UnitPieces` (`piece_work.rt` of `tor_engine`),
+/// and each of its pieces, `FoundPiece` (`piece_hash.rt`).
 pub trait Owed {
     /// How many bytes of sums.
     ghost owed: { Self → ℕ };
