@@ -11,13 +11,13 @@ ghost use Rattle.tor_tree.specs.declared.lists.TheConstants.{MAX_TOTAL};
 ghost use Rattle.tor_v1.specs.Piece.{max_piece_length};
 
 use crate::agree::{files_differ, has_wrong_tail, is_misaligned, some_letters_differ};
-use crate::head::Head;
+use crate::head::CommonKeys;
 use crate::listed::Listed;
 use crate::refusal::Refusal;
 use crate::sides::Sides;
 
 /// Whether the sides of a hybrid agree: V22, V23 and V25.
-pub fn judge_alignment(head: &Head<'_>, sides: &Sides) -> Result<(), Refusal>
+pub fn judge_alignment(head: &CommonKeys<'_>, sides: &Sides) -> Result<(), Refusal>
     requires kind { head.now.kind ≡ kind_of (view head.now.info.now) }
     requires piece_length { head.now.piece_length ≡ piece_length_of (view head.now.info.now) }
     requires some { (1 ≤ head.now.piece_length) × (head.now.piece_length ≤ max_piece_length) }

@@ -15,7 +15,7 @@ use tor_tree::{Kind, Name, NameError};
 
 /// What the keys say that all kinds have.
 #[derive(Drop)]
-pub struct Head<'a> {
+pub struct CommonKeys<'a> {
     pub info: &'a Item,
     pub kind: Kind,
     pub name: Name,
@@ -25,7 +25,7 @@ pub struct Head<'a> {
 }
 
 /// The head of a torrent; or the first of V2 to V7.
-pub fn read_head<'a>(alloc: Global, root: &'a Item) -> Result<Head<'a>, Refusal>
+pub fn read_head<'a>(alloc: Global, root: &'a Item) -> Result<CommonKeys<'a>, Refusal>
     ensures read { IfOk result (IsHeadOf (view root.now)) }
     ensures accepted { OnOk result (first_in head_conditions (view root.now) ≡ None) }
     ensures refused { IfErr result (IsFirst (first_in head_conditions (view root.now))) }
@@ -48,7 +48,7 @@ pub fn read_head<'a>(alloc: Global, root: &'a Item) -> Result<Head<'a>, Refusal>
     if kind.has_v1() && is_there(info, b"length") == is_there(info, b"files") {
         return Err(Refusal::LengthAndFiles);
     }
-    Ok(Head {
+    Ok(CommonKeys {
         info,
         kind,
         name,

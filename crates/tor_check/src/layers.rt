@@ -14,7 +14,7 @@ ghost use Rattle.tor_spec.specs.valid.Parts.{info_of, kind_of};
 ghost use Rattle.tor_tree.specs.Kinds.{has_v2};
 ghost use Rattle.tor_merkle.specs.declared.TheConstants.{MAX_LENGTH};
 
-use crate::head::Head;
+use crate::head::CommonKeys;
 use crate::layer_keys::{Layers, layers_of};
 use crate::refusal::Refusal;
 use crate::sides::Sides;
@@ -24,7 +24,7 @@ use tor_merkle::{layer_root, piece_level};
 use tor_tree::TreeFile;
 
 /// The piece layers of a v2 side: V18 to V21.
-pub fn judge_layers(root: &Item, head: &Head<'_>, sides: &Sides) -> Result<(), Refusal>
+pub fn judge_layers(root: &Item, head: &CommonKeys<'_>, sides: &Sides) -> Result<(), Refusal>
     requires keys { HasRisingKeys (view root.now) }
     requires head { IsHeadOf (view root.now) head.now }
     requires sides { AreSidesOf (info_of (view root.now)) sides.now }

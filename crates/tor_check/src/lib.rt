@@ -16,12 +16,13 @@
 //!
 //! The root and the keys that all kinds have: `head.rt`. The v1 side: `marks.rt` and `listed.rt` read it,
 //! `list_side.rt` judges it; the v2 side: `tree_side.rt`; both: `sides.rt`. Piece layers: `layer_keys.rt`, `layers.rt`.
-//! Where the sides of a hybrid agree: `agree.rt`, judged in `alignment.rt`. What is told: `views.rt`, `told.rt`.
+//! Where the sides of a hybrid agree: `agree.rt`, judged in `alignment.rt`. What is told: `views.rt`, `described.rt`.
 //! `parts.rt` reads single keys.
 #![tactic(auto)]
 
 mod agree;
 mod alignment;
+mod described;
 mod head;
 mod layer_keys;
 mod layers;
@@ -32,7 +33,6 @@ mod parts;
 mod piece_proofs;
 mod refusal;
 mod sides;
-mod told;
 mod torrent;
 mod tree_side;
 mod verdict;

@@ -18,7 +18,7 @@ ghost use Rattle.tor_tree.specs.Properties.{as_string};
 ghost use Rattle.tor_merkle.specs.declared.TheConstants.{MAX_LENGTH};
 ghost use Rattle.tor_tree.specs.declared.lists.TheConstants.{MAX_TOTAL};
 
-use crate::head::Head;
+use crate::head::CommonKeys;
 use crate::listed::{Listed, read_list_of};
 use crate::marks::read_marks;
 use crate::parts::text;
@@ -38,7 +38,7 @@ pub struct ListSide {
 }
 
 /// The v1 side, or its first fault.
-pub fn read_list(alloc: Global, head: &Head<'_>) -> Result<ListSide, Refusal>
+pub fn read_list(alloc: Global, head: &CommonKeys<'_>) -> Result<ListSide, Refusal>
     requires name { head.now.name ≡ name_of (view head.now.info.now) }
     requires piece_length { head.now.piece_length ≡ piece_length_of (view head.now.info.now) }
     requires some { 0 < head.now.piece_length }

@@ -11,7 +11,7 @@ ghost use Rattle.tor_spec.specs.valid.ListSide.{side_size};
 ghost use Rattle.tor_spec.specs.valid.Parts.{kind_of, name_of, piece_length_of};
 ghost use Rattle.tor_tree.specs.Kinds.{has_v1};
 
-use crate::head::Head;
+use crate::head::CommonKeys;
 use crate::list_side::{ListSide, read_list};
 use crate::refusal::{Refusal, number_of};
 use crate::tree_side::read_tree;
@@ -30,7 +30,7 @@ pub struct Sides {
 }
 
 /// The sides of a torrent, or the first fault of them.
-pub fn read_sides(alloc: Global, head: &Head<'_>) -> Result<Sides, Refusal>
+pub fn read_sides(alloc: Global, head: &CommonKeys<'_>) -> Result<Sides, Refusal>
     requires kind { head.now.kind ≡ kind_of (view head.now.info.now) }
     requires name { head.now.name ≡ name_of (view head.now.info.now) }
     requires piece_length { head.now.piece_length ≡ piece_length_of (view head.now.info.now) }
@@ -50,7 +50,7 @@ pub fn read_sides(alloc: Global, head: &Head<'_>) -> Result<Sides, Refusal>
 }
 
 /// The v1 side, if it is there.
-fn list_of(alloc: Global, head: &Head<'_>) -> Result<ListSide, Refusal>
+fn list_of(alloc: Global, head: &CommonKeys<'_>) -> Result<ListSide, Refusal>
     requires kind { head.now.kind ≡ kind_of (view head.now.info.now) }
     requires name { head.now.name ≡ name_of (view head.now.info.now) }
     requires piece_length { head.now.piece_length ≡ piece_length_of (view head.now.info.now) }
@@ -72,7 +72,7 @@ fn list_of(alloc: Global, head: &Head<'_>) -> Result<ListSide, Refusal>
 }
 
 /// The files of the v2 side, if it is there.
-fn tree_of(alloc: Global, head: &Head<'_>) -> Result<Vec<TreeFile>, Refusal>
+fn tree_of(alloc: Global, head: &CommonKeys<'_>) -> Result<Vec<TreeFile>, Refusal>
     requires kind { head.now.kind ≡ kind_of (view head.now.info.now) }
     ensures files { IfOk result (λ files. files.items ≡ files_if (view head.now.info.now)) }
     ensures accepted { OnOk result (tree_if (view head.now.info.now) ≡ None) }

@@ -11,11 +11,11 @@ ghost use Rattle.tor_spec.specs.valid.Conditions.{IsValid, refusal_of};
 ghost use Rattle.tor_spec.specs.valid.View.{view_of};
 
 use crate::alignment::judge_alignment;
+use crate::described::torrent_of;
 use crate::head::read_head;
 use crate::layers::judge_layers;
 use crate::refusal::Refusal;
 use crate::sides::read_sides;
-use crate::told::torrent_of;
 use crate::torrent::Torrent;
 use std::alloc::Global;
 use tor_bencode::{Item, decode, span};

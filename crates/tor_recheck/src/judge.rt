@@ -5,7 +5,7 @@ ghost use Rattle.tor_recheck.specs.steps.Judge.{all_judged, all_merkle_judged, i
 ghost use Rattle.tor_recheck.specs.steps.Judge.{is_told};
 
 use crate::bits::Bits;
-use crate::told::{root_at, told_hashes};
+use crate::merkle_hashes::{root_at, told_hashes};
 use std::alloc::{AllocError, Global};
 use tor_check::Torrent;
 use tor_engine::PieceHash;

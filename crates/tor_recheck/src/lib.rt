@@ -10,8 +10,8 @@
 //! assert!(rt; bits.to_bytes(alloc)?.as_slice() == &[0x80]);
 //! ```
 //!
-//! - [`recheck`] (`rechecking.rt`): a bit for each piece of a torrent, or a [`RecheckError`] (`errors.rt`). `told.rt`
-//!   has the hashes that the torrent gives, by which `judge.rt` judges those of the files.
+//! - [`recheck`] (`rechecking.rt`): a bit for each piece of a torrent, or a [`RecheckError`] (`errors.rt`).
+//!   `merkle_hashes.rt` has the Merkle hashes that the torrent gives, by which `judge.rt` judges those of the files.
 //! - [`recheck_files`] (`rechecking_files.rt`): the same bits, and what is told of each file ([`FileFound`],
 //!   [`FileState`]), as [`files_of`] (`files.rt`) tells it by the pieces that hold and by the lengths that are there.
 //!   `spans.rt` has which pieces have bytes of a file.
@@ -24,10 +24,10 @@ mod errors;
 mod files;
 mod judge;
 pub mod laws;
+mod merkle_hashes;
 mod rechecking;
 mod rechecking_files;
 mod spans;
-mod told;
 
 pub use bits::Bits;
 pub use errors::RecheckError;

@@ -5,27 +5,27 @@ use Rattle.std.specs.Prelude.{reverse, vec_items}
 use Rattle.std.proofs.lemmas.List.{drop-append-le, length_push, map_push, reverse-append, take-append-le, take_all}
 use Rattle.std.proofs.lemmas.List.Sorted.{Contains-permutation, IsPermutation-reverse, IsPermutation-sym}
 use Rattle.tor_source.specs.steps.Listing.{HasSameNames, names_in}
-use Rattle.tor_source.specs.declared.walk.Entry.{Entry}
+use Rattle.tor_source.specs.declared.walk.WaitingName.{WaitingName}
 use Rattle.tor_source.specs.steps.Order.{HasAdded, name_of}
 
 -- of all names the last ones were added, the last one first
-pub record IsMoved (all left : List (Vec ℕ Global)) (before after : List Entry) : Type 0 where
+pub record IsMoved (all left : List (Vec ℕ Global)) (before after : List WaitingName) : Type 0 where
   pub within : length before ≤ length after
   pub stay : take (length before) after ≡ before
   pub moved : map vec_items all ≡ map vec_items left ++ reverse (map name_of (drop (length before) after))
 
-pub moved_none : (all : List (Vec ℕ Global)) (before : List Entry) → IsMoved all all before before
+pub moved_none : (all : List (Vec ℕ Global)) (before : List WaitingName) → IsMoved all all before before
 moved_none all before = record {
   within = omega arith;
   stay = take_all (length before) before (omega arith);
   moved = rw (drop_all before) (sym (append-nil (map vec_items all)));
 }
   where
-    drop_all : (xs : List Entry) → drop (length xs) xs ≡ []
+    drop_all : (xs : List WaitingName) → drop (length xs) xs ≡ []
     drop_all [] = refl
     drop_all (x ∷ xs) = drop_all xs
 
-pub moved_more : (all left : List (Vec ℕ Global)) (before after : List Entry) (next : Entry)
+pub moved_more : (all left : List (Vec ℕ Global)) (before after : List WaitingName) (next : WaitingName)
     → IsMoved all (left ++ next.name ∷ []) before after → IsMoved all left before (after ++ next ∷ [])
 moved_more all left before after next h =
     let within : length before ≤ length after = h.within in
@@ -43,7 +43,7 @@ moved_more all left before after next h =
           (map vec_items left) (name_of next ∷ []) (reverse gone));
     }
 
-pub moved_all : (known : Option (List ℕ)) (all : List (Vec ℕ Global)) (before after : List Entry)
+pub moved_all : (known : Option (List ℕ)) (all : List (Vec ℕ Global)) (before after : List WaitingName)
     → IfSome known (λ listing. HasSameNames (names_in listing) (map vec_items all)) → IsMoved all [] before after
     → IfSome known (λ listing. HasAdded listing before after)
 moved_all None all before after same h = tt

@@ -8,10 +8,10 @@ use Rattle.std.proofs.lemmas.List.{take-append-le, take-take, take_all}
 use Rattle.std.proofs.lemmas.List.Elements.{All-nil, All-push, recursion_from_All}
 use Rattle.tor_source.proofs.Waiting.{waiting_first, waiting_found, waiting_rest}
 use Rattle.tor_source.specs.steps.Order.{AreNested, IsAhead, IsEntered, IsWaiting, path_in}
-use Rattle.tor_source.specs.declared.walk.Entry.{Entry}
+use Rattle.tor_source.specs.declared.walk.WaitingName.{WaitingName}
 
 -- entries, and the path that was entered last
-same_path : (last : List (List ℕ)) (name : List ℕ) (deep : ℕ) (entry : Entry) → deep ≤ length last
+same_path : (last : List (List ℕ)) (name : List ℕ) (deep : ℕ) (entry : WaitingName) → deep ≤ length last
     → entry.depth ≤ deep → path_in (take deep last ++ name ∷ []) entry ≡ path_in last entry
 same_path last name deep entry within shallow =
     let long : length (take deep last) ≡ deep = length-take-le deep last within in
@@ -19,14 +19,14 @@ same_path last name deep entry within shallow =
     take-append-le entry.depth (take deep last) (name ∷ []) (omega arith) in
     ap (λ names. names ++ entry.name.items ∷ []) (cut ∙ take-take entry.depth deep last shallow)
 
-same_paths : (last : List (List ℕ)) (name : List ℕ) (deep : ℕ) (entries : List Entry) → deep ≤ length last
+same_paths : (last : List (List ℕ)) (name : List ℕ) (deep : ℕ) (entries : List WaitingName) → deep ≤ length last
     → AllByRecursion (λ entry. entry.depth ≤ deep) entries
     → map (path_in (take deep last ++ name ∷ [])) entries ≡ map (path_in last) entries
 same_paths last name deep [] within h = refl
 same_paths last name deep (entry ∷ entries) within h =
     rw (same_path last name deep entry within h.0, same_paths last name deep entries within h.1) refl
 
-module _ (entries : List Entry) (next : Entry) where
+module _ (entries : List WaitingName) (next : WaitingName) where
   nested_rest : AreNested (entries ++ next ∷ []) → AreNested entries
   nested_rest h i j d lt within =
       let all : j < length (entries ++ next ∷ []) = omega (arith, length_push entries next) in
@@ -61,7 +61,7 @@ entered_first = record {
 }
 
 -- the next entry is entered
-pub entered_next : (found : List (List (List ℕ))) (last : List (List ℕ)) (entries : List Entry) (next : Entry)
+pub entered_next : (found : List (List (List ℕ))) (last : List (List ℕ)) (entries : List WaitingName) (next : WaitingName)
     → IsAhead found last (entries ++ next ∷ []) → IsEntered found (path_in last next) entries
 entered_next found last entries next h =
     let shallow = nested_next entries next h.nested in
@@ -81,7 +81,7 @@ entered_next found last entries next h =
         rw (get_or_push xs y y (length xs) refl) at (all (length xs) y (omega (arith, length_push xs y)))
 
 -- it was a file
-pub ahead_file : (found : List (List (List ℕ))) (path : List (List ℕ)) (entries : List Entry)
+pub ahead_file : (found : List (List (List ℕ))) (path : List (List ℕ)) (entries : List WaitingName)
     → IsEntered found path entries → IsAhead (found ++ path ∷ []) path entries
 ahead_file found path entries h = record {
   paths = waiting_found found (map (path_in path) entries) path h.paths;
@@ -90,7 +90,7 @@ ahead_file found path entries h = record {
 }
 
 -- it was a folder
-pub ahead_folder : (found : List (List (List ℕ))) (path : List (List ℕ)) (entries : List Entry)
+pub ahead_folder : (found : List (List (List ℕ))) (path : List (List ℕ)) (entries : List WaitingName)
     → IsEntered found path entries → IsAhead found path entries
 ahead_folder found path entries h = record {
   paths = waiting_rest found (map (path_in path) entries) path h.paths;
@@ -99,14 +99,14 @@ ahead_folder found path entries h = record {
 }
 
 -- and one more of its names waits
-pub path_inside : (path : List (List ℕ)) (entries : List Entry) (next : Entry) → next.depth ≡ length path
+pub path_inside : (path : List (List ℕ)) (entries : List WaitingName) (next : WaitingName) → next.depth ≡ length path
     → map (path_in path) (entries ++ next ∷ []) ≡ map (path_in path) entries ++ (path ++ next.name.items ∷ []) ∷ []
 path_inside path entries next deep =
     map_push (path_in path) entries next ∙ ap
     (λ names. map (path_in path) entries ++ (names ++ next.name.items ∷ []) ∷ [])
     (take_all next.depth path (omega arith))
 
-pub ahead_name : (found : List (List (List ℕ))) (path : List (List ℕ)) (entries : List Entry) (next : Entry)
+pub ahead_name : (found : List (List (List ℕ))) (path : List (List ℕ)) (entries : List WaitingName) (next : WaitingName)
     → next.depth ≡ length path → IsAhead found path entries
     → IsWaiting found (map (path_in path) entries ++ (path ++ next.name.items ∷ []) ∷ [])
     → IsAhead found path (entries ++ next ∷ [])

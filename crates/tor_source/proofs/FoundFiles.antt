@@ -8,7 +8,7 @@ use Rattle.tor_tree.specs.Path.{path_cmp}
 use Rattle.tor_source.proofs.Waiting.{next_before}
 use Rattle.tor_source.specs.Places.{place_below}
 use Rattle.tor_source.specs.steps.Order.{IsEntered, IsFound, path_in}
-use Rattle.tor_source.specs.declared.walk.Entry.{Entry}
+use Rattle.tor_source.specs.declared.walk.WaitingName.{WaitingName}
 use Rattle.tor_tree.specs.declared.paths.TheConstants.{MAX_NAMES}
 
 -- a list that rises, without its last element
@@ -37,7 +37,7 @@ rising_push R [] y h below = (tt, tt)
 rising_push R (x ∷ xs) y h below = (all_push (λ z. R x z ≡ Less) xs y h.0 below.0, rising_push R xs y h.1 below.1)
 
 pub found_push : (place : List ℕ) (paths : List (List (List ℕ))) (places : List (List ℕ)) (path : List (List ℕ))
-    → (at : List ℕ) (entries : List Entry)
+    → (at : List ℕ) (entries : List WaitingName)
     → IsFound place paths places → IsEntered paths path entries → length path ≤ MAX_NAMES
     → at ≡ place_below place path → IsFound place (paths ++ path ∷ []) (places ++ at ∷ [])
 found_push place paths places path at entries found entered short is = record {

@@ -18,7 +18,7 @@ use tor_tree::{FilePath, MAX_NAMES, Name, copy_names};
 /// Files that were found: the place of the folder, with no slash at its end, and for each file its path below the
 /// folder and where the system has it.
 #[derive(Drop)]
-pub(crate) struct Found {
+pub(crate) struct FoundFiles {
     folder: String,
     pub(crate) paths: Vec<FilePath>,
     pub(crate) places: Vec<String>,
@@ -27,14 +27,14 @@ pub(crate) struct Found {
 /// A file or a folder that is still to be entered: how many names lead to it, and its own. The names are the first of
 /// the path that was entered last.
 #[derive(Drop)]
-pub(crate) struct Entry {
+pub(crate) struct WaitingName {
     depth: usize,
     name: Vec<u8>,
 }
 
 /// All files below a folder. A folder is listed whole, and its names are entered in the order of their bytes, each
 /// folder where it is met.
-pub(crate) fn walk<R: Files>(rt: &R, alloc: Global, root: &str) -> Result<Found, ScanFault>
+pub(crate) fn walk<R: Files>(rt: &R, alloc: Global, root: &str) -> Result<FoundFiles, ScanFault>
     ensures { IfOk result (HasFound (without_slash root.now)) }
 {
     let mut found = none_found(alloc, root)?;
@@ -50,11 +50,11 @@ pub(crate) fn walk<R: Files>(rt: &R, alloc: Global, root: &str) -> Result<Found,
 }
 
 /// The place of a folder, below which nothing was found yet.
-fn none_found(alloc: Global, root: &str) -> Result<Found, AllocError>
+fn none_found(alloc: Global, root: &str) -> Result<FoundFiles, AllocError>
     ensures folder { IfOk result (λ found. string_bytes found.folder ≡ without_slash root.now) }
     ensures none { IfOk result (λ found. (found.paths.items ≡ []) × (found.places.items ≡ [])) }
 {
-    Ok(Found {
+    Ok(FoundFiles {
         folder: String::from_str(alloc, without_slash(root))?,
         paths: Vec::new(alloc),
         places: Vec::new(alloc),
@@ -62,7 +62,7 @@ fn none_found(alloc: Global, root: &str) -> Result<Found, AllocError>
 }
 
 /// The names in the folder itself, which wait.
-fn names_at_top<R: Files>(rt: &R, alloc: Global, root: &str) -> Result<Vec<Entry>, ScanFault>
+fn names_at_top<R: Files>(rt: &R, alloc: Global, root: &str) -> Result<Vec<WaitingName>, ScanFault>
     ensures { IfOk result (λ waiting. IsAhead [] [] waiting.items) }
 {
     let mut waiting = Vec::new(alloc);
@@ -77,10 +77,10 @@ fn names_at_top<R: Files>(rt: &R, alloc: Global, root: &str) -> Result<Vec<Entry
 fn enter<R: Files>(
     rt: &R,
     alloc: Global,
-    entry: Entry,
+    entry: WaitingName,
     last: &mut Vec<Name>,
-    waiting: &mut Vec<Entry>,
-    found: &mut Found,
+    waiting: &mut Vec<WaitingName>,
+    found: &mut FoundFiles,
 ) -> Result<(), ScanFault>
     requires found { HasFound (string_bytes found.old.folder) found.old }
     requires ahead { IsAhead found.old.paths.items last.old.items (waiting.old.items ++ entry ∷ []) }
@@ -101,7 +101,7 @@ fn enter<R: Files>(
 }
 
 /// Makes the path that was entered last that of an entry.
-fn step_to(alloc: Global, entry: Entry, last: &mut Vec<Name>) -> Result<(), ScanFault>
+fn step_to(alloc: Global, entry: WaitingName, last: &mut Vec<Name>) -> Result<(), ScanFault>
     ensures { OnOk result (last.new.items ≡ path_in last.old.items entry) }
 {
     last.truncate(entry.depth);
@@ -114,7 +114,7 @@ fn add_names<D: Read + Drop>(
     alloc: Global,
     folder: D,
     above: &[Name],
-    waiting: &mut Vec<Entry>,
+    waiting: &mut Vec<WaitingName>,
 ) -> Result<(), ScanFault>
     ensures ahead { OnOk result ((found : List (List (List ℕ))) →
         IsEntered found above.now waiting.old.items → IsAhead found above.now waiting.new.items) }
@@ -124,7 +124,7 @@ fn add_names<D: Read + Drop>(
     let mut names = rising_names(alloc, folder)?;
     while let Some(name) = names.pop() {
         let depth = above.len();
-        waiting.push(Entry { depth, name })?;
+        waiting.push(WaitingName { depth, name })?;
     }
     Ok(())
 }
@@ -134,7 +134,7 @@ fn add_file(
     alloc: Global,
     place: String,
     names: &[Name],
-    found: &mut Found,
+    found: &mut FoundFiles,
 ) -> Result<(), ScanFault>
     requires { names.now ≢ [] }
     ensures added { OnOk result (

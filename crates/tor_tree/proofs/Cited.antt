@@ -61,7 +61,7 @@ pub use Rattle.tor_tree.specs.TidyTree.{AreTidy, AtMostOneTree, HasItsRoot, IsFi
 pub use Rattle.tor_tree.specs.TidyTree.{lettered_files}
 pub use Rattle.tor_tree.specs.WrittenTree.{file_tree, pairs_of_files, put_first, put_inside, put_under, with_properties}
 pub use Rattle.tor_tree.specs.declared.attr.Attr.{Attr}
-pub use Rattle.tor_tree.specs.declared.entries.Entry.{Entry}
+pub use Rattle.tor_tree.specs.declared.entries.DescribedFile.{DescribedFile}
 pub use Rattle.tor_tree.specs.declared.lists.ListError.{ListError}
 pub use Rattle.tor_tree.specs.declared.lists.TheConstants.{MAX_TOTAL, ROUNDING}
 pub use Rattle.tor_tree.specs.declared.names.NameError.TheVariants.{NotUtf8}

@@ -7,11 +7,11 @@ use Rattle.tor_tree.proofs.Cited.{list, dictionary, Pairs, no_pairs, pair, lengt
 use Rattle.tor_tree.proofs.Cited.{under, file_of, files_of_tree, has_empty_key, is_folder, lacks_root, properties_in}
 use Rattle.tor_tree.proofs.Cited.{tree_fault, tree_mixes, has_negative_length, has_letter, length_of, is_hash}
 use Rattle.tor_tree.proofs.Cited.{pieces_root, letter_l, entries_fault, entry_at, file_from, hash_of, path_if_any}
-use Rattle.tor_tree.proofs.Cited.{Entry}
+use Rattle.tor_tree.proofs.Cited.{DescribedFile}
 use Rattle.tor_tree.proofs.ListFaults.{clear}
 
 -- a test of entries agrees with one of properties
-alike : (p : Entry → Bool) (q : Data → Bool) → ((file : List (List ℕ) × Data) → p (entry_at [] file) ≡ q file.1)
+alike : (p : DescribedFile → Bool) (q : Data → Bool) → ((file : List (List ℕ) × Data) → p (entry_at [] file) ≡ q file.1)
     → (files : List (List (List ℕ) × Data))
     → list_any p (map (entry_at []) files) ≡ list_any q (map (λ file. file.1) files)
 alike p q same [] = refl
@@ -29,9 +29,9 @@ pub entries_fault-tree : (tree : Data) → is_folder tree ≡ true
     → entries_fault (map (entry_at []) (entries_of tree)) (tree_mixes tree) ≡ tree_fault tree
 entries_fault-tree tree shaped =
     let files = entries_of tree in
-    let lengths : map (λ (entry : Entry). unsigned_abs entry.properties.length) (map (entry_at []) files)
+    let lengths : map (λ (entry : DescribedFile). unsigned_abs entry.properties.length) (map (entry_at []) files)
     ≡ map length_of (properties_in tree) =
-    map-map (λ (entry : Entry). unsigned_abs entry.properties.length) (entry_at []) files
+    map-map (λ (entry : DescribedFile). unsigned_abs entry.properties.length) (entry_at []) files
     ∙ sym (map-map length_of (λ (file : List (List ℕ) × Data). file.1) files) in
     rw (
       shaped,
@@ -82,13 +82,13 @@ same_files (file ∷ files) has =
     rw (same_file file parts.0, same_files files parts.1) refl
 
 under_paths : (name : List ℕ) (files : List (List (List ℕ) × Data)) (rest : List (List (List ℕ) × Data))
-    → AllByRecursion (λ (entry : Entry). IsSome entry.path) (map (entry_at []) rest)
-    → AllByRecursion (λ (entry : Entry). IsSome entry.path) (map (entry_at []) (under name files ++ rest))
+    → AllByRecursion (λ (entry : DescribedFile). IsSome entry.path) (map (entry_at []) rest)
+    → AllByRecursion (λ (entry : DescribedFile). IsSome entry.path) (map (entry_at []) (under name files ++ rest))
 under_paths name [] rest h = h
 under_paths name (file ∷ files) rest h = (refl, under_paths name files rest h)
 
 have_paths : (pairs : Pairs) → has_empty_key pairs ≡ false
-    → AllByRecursion (λ (entry : Entry). IsSome entry.path) (map (entry_at []) (entries_in pairs))
+    → AllByRecursion (λ (entry : DescribedFile). IsSome entry.path) (map (entry_at []) (entries_in pairs))
 have_paths no_pairs named = tt
 have_paths (pair [] properties pairs) named = cc
 have_paths (pair (c ∷ cs) folder pairs) named = under_paths (c ∷ cs) (entries_of folder) (entries_in pairs)
@@ -96,7 +96,7 @@ have_paths (pair (c ∷ cs) folder pairs) named = under_paths (c ∷ cs) (entrie
 
 -- where the tree has not the empty key itself, every entry has a path
 pub all_have_paths : (tree : Data) → tree_mixes tree ≡ false
-    → All (λ (entry : Entry). IsSome entry.path) (map (entry_at []) (entries_of tree))
+    → All (λ (entry : DescribedFile). IsSome entry.path) (map (entry_at []) (entries_of tree))
 all_have_paths (integer n) h = λ k d lt. absurd (omega arith)
 all_have_paths (string bytes) h = λ k d lt. absurd (omega arith)
 all_have_paths (list items) h = λ k d lt. absurd (omega arith)
@@ -104,7 +104,7 @@ all_have_paths (dictionary pairs) h =
     All-from_recursion _ _ (have_paths pairs (or_parts (has_empty_key pairs) _ h).0)
 
 -- what the entries read of a tree tell of it
-module _ (tree : Data) (shaped : is_folder tree ≡ true) (entries : List Entry)
+module _ (tree : Data) (shaped : is_folder tree ≡ true) (entries : List DescribedFile)
     (read : entries ≡ map (entry_at []) (entries_of tree)) (mixed : Bool) (mixes : mixed ≡ tree_mixes tree) where
   pub fault_told : entries_fault entries mixed ≡ tree_fault tree
   fault_told = rw (read, mixes) (entries_fault-tree tree shaped)

@@ -4,7 +4,7 @@ use Rattle.tor_tree.proofs.Cited.{Global, List, [], ◌∷◌, ◌++◌, length,
 use Rattle.tor_tree.proofs.Cited.{arith, zero, suc, and_parts, append-nil, drop_more, drop_all, map-append, Data}
 use Rattle.tor_tree.proofs.Cited.{dictionary, Pairs, pair, no_pairs, view, pairs_view, Item, Dict, the_lemmas}
 use Rattle.tor_tree.proofs.Cited.{entries_in, entries_of, under, are_entries, is_folder, takes_memory, takes_memory_in}
-use Rattle.tor_tree.proofs.Cited.{name_fault, are_properties, Entry, entry_at, path_if_any, facts_in}
+use Rattle.tor_tree.proofs.Cited.{name_fault, are_properties, DescribedFile, entry_at, path_if_any, facts_in}
 
 pub view_dictionary : (pairs : Vec (Vec ℕ Global × Item) Global)
     → view (Dict pairs) ≡ dictionary (pairs_view pairs.items)
@@ -93,7 +93,7 @@ module _ (item : Item) (pairs : Vec (Vec ℕ Global × Item) Global) (seen : ite
   shaped_to_end past =
       ap is_folder as_pairs ∙ sym whole ∙ ap (λ ps. are_entries (pairs_view ps)) (drop_all i items past)
 
-  pub added_to_end : (folder : List (List ℕ)) (old new : List Entry) → length items ≤ i
+  pub added_to_end : (folder : List (List ℕ)) (old new : List DescribedFile) → length items ≤ i
       → new ++ map (entry_at folder) (entries_in (pairs_view (drop i items)))
       ≡ old ++ map (entry_at folder) (entries_in (pairs_view items))
       → new ≡ old ++ map (entry_at folder) (entries_of (view item))
@@ -104,7 +104,7 @@ module _ (item : Item) (pairs : Vec (Vec ℕ Global × Item) Global) (seen : ite
       rw of_item (sym (append-nil new) ∙ rw ended at same)
 
   -- what was added of a pair, and what is left
-  pub entries_go_on : (folder : List (List ℕ)) (p : Vec ℕ Global × Item) (now new all : List Entry) → i < length items
+  pub entries_go_on : (folder : List (List ℕ)) (p : Vec ℕ Global × Item) (now new all : List DescribedFile) → i < length items
       → p ≡ get_or items i p → new ≡ now ++ map (entry_at folder) (entries_in (pair p.0.items (view p.1) no_pairs))
       → now ++ map (entry_at folder) (entries_in (pairs_view (drop i items))) ≡ all
       → new ++ map (entry_at folder) (entries_in (pairs_view (drop (i + 1) items))) ≡ all

@@ -17,7 +17,7 @@ use tor_bencode::Item;
 
 /// A file as its tree describes it, before it is judged; it has no path if the tree itself has the empty key.
 #[derive(Drop)]
-pub struct Entry {
+pub struct DescribedFile {
     pub path: Option<FilePath>,
     pub properties: Properties,
 }
@@ -29,7 +29,7 @@ pub fn add_folder(
     alloc: Global,
     item: &Item,
     folder: &mut Vec<Name>,
-    entries: &mut Vec<Entry>,
+    entries: &mut Vec<DescribedFile>,
 ) -> Result<(), TreeFault>
     ensures shaped { OnOk result (is_folder (view item.now) ≡ true) }
     ensures added { OnOk result (entries.new.items
@@ -57,7 +57,7 @@ fn add_pair(
     key: &[u8],
     value: &Item,
     folder: &mut Vec<Name>,
-    entries: &mut Vec<Entry>,
+    entries: &mut Vec<DescribedFile>,
 ) -> Result<(), TreeFault>
     ensures shaped { OnOk result (are_entries (pair key.now (view value.now) no_pairs) ≡ true) }
     ensures added { OnOk result (entries.new.items
@@ -82,7 +82,7 @@ fn add_file(
     alloc: Global,
     properties: &Item,
     folder: &[Name],
-    entries: &mut Vec<Entry>,
+    entries: &mut Vec<DescribedFile>,
 ) -> Result<(), TreeFault>
     ensures shaped { OnOk result (are_properties (view properties.now) ≡ true) }
     ensures added { OnOk result (entries.new.items
@@ -95,6 +95,6 @@ fn add_file(
         return Err(TreeFault::Shape);
     };
     let path = FilePath::new(copy_names(alloc, folder)?);
-    entries.push(Entry { path, properties })?;
+    entries.push(DescribedFile { path, properties })?;
     Ok(())
 }

@@ -9,7 +9,7 @@ ghost use Rattle.tor_tree.specs.FileTree.{files_of_tree, is_dictionary, takes_me
 ghost use Rattle.tor_tree.specs.steps.Reading.{entries_fault, file_from, misses_root};
 ghost use Rattle.tor_tree.specs.declared.tree_file.TreeFault.TheVariants.{Memory, Shape};
 
-use crate::entries::{Entry, add_folder};
+use crate::entries::{DescribedFile, add_folder};
 use crate::lists::with_length;
 use crate::mixed::mixes;
 use crate::tree_file::{TreeFault, TreeFile};
@@ -33,7 +33,7 @@ pub fn from_item(alloc: Global, item: &Item) -> Result<Vec<TreeFile>, TreeFault>
 }
 
 /// The first fault, past that of the shape, of the entries of a tree that mixes files and folders or not.
-fn fault_of(entries: &[Entry], mixes: bool) -> Option<TreeFault>
+fn fault_of(entries: &[DescribedFile], mixes: bool) -> Option<TreeFault>
     ensures { result ≡ entries_fault entries.now mixes }
 {
     if has_negative_length(entries) {
@@ -57,20 +57,20 @@ fn fault_of(entries: &[Entry], mixes: bool) -> Option<TreeFault>
     None
 }
 
-fn has_negative_length(entries: &[Entry]) -> bool
+fn has_negative_length(entries: &[DescribedFile]) -> bool
     ensures { result ≡ list_any (λ entry. int_lt entry.properties.length (pos 0)) entries.now }
 {
     entries.iter().any(|entry| entry.properties.length < 0)
 }
 
-fn has_link(entries: &[Entry]) -> bool
+fn has_link(entries: &[DescribedFile]) -> bool
     ensures { result ≡ list_any (λ entry. entry.properties.link) entries.now }
 {
     entries.iter().any(|entry| entry.properties.link)
 }
 
 /// Whether a file that is not empty has no root.
-fn lacks_root(entries: &[Entry]) -> bool
+fn lacks_root(entries: &[DescribedFile]) -> bool
     ensures { result ≡ list_any misses_root entries.now }
 {
     entries.iter().any(|entry| entry.properties.length.unsigned_abs() > 0
@@ -78,7 +78,7 @@ fn lacks_root(entries: &[Entry]) -> bool
 }
 
 /// Whether a length is too large, or all of them together are.
-fn is_too_large(entries: &[Entry]) -> bool
+fn is_too_large(entries: &[DescribedFile]) -> bool
     ensures { result ≡ lengths_too_large (map (λ entry. unsigned_abs entry.properties.length) entries.now) }
 {
     let mut total = 0;
@@ -92,13 +92,13 @@ fn is_too_large(entries: &[Entry]) -> bool
 }
 
 /// The files of entries in which no fault was found.
-fn files_of(alloc: Global, entries: Vec<Entry>) -> Result<Vec<TreeFile>, TreeFault>
+fn files_of(alloc: Global, entries: Vec<DescribedFile>) -> Result<Vec<TreeFile>, TreeFault>
     requires { All (λ entry. IsSome entry.path) entries.items }
     ensures made { IfOk result (λ files. files.items ≡ map file_from entries.items) }
     ensures memory { IsOkUnless result TreeFault.Memory }
 {
     let mut files = Vec::with_capacity(alloc, entries.len())?;
-    for Entry { path, properties } in entries {
+    for DescribedFile { path, properties } in entries {
         let length = properties.length.unsigned_abs();
         files.push(TreeFile {
             path: path.unwrap(),

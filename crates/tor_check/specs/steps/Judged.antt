@@ -9,7 +9,7 @@ use Rattle.tor_spec.specs.valid.Parts.{info_of, is_private, kind_of, name_of, pi
 use Rattle.tor_check.specs.Refusals.{refusal_for}
 use Rattle.tor_check.specs.declared.refusal.Refusal.{Refusal}
 use Rattle.tor_check.specs.declared.refusal.Refusal.TheVariants as refusals
-use Rattle.tor_check.specs.declared.head.Head.{Head}
+use Rattle.tor_check.specs.declared.head.CommonKeys.{CommonKeys}
 
 -- this is the refusal of the first condition
 abbrev pub Names : Option Condition → Refusal → Type 0
@@ -51,7 +51,7 @@ first_of_alignment info =
     if of_both alignment info then Some conditions.Alignment else (
     if of_both attr_differs info then Some conditions.AttrDiffer else None))
 
-pub record IsHeadOf (root : Data) (head : Head) : Type 0 where
+pub record IsHeadOf (root : Data) (head : CommonKeys) : Type 0 where
   pub info : view head.info.now ≡ info_of root
   pub kind : head.kind ≡ kind_of (info_of root)
   pub name : head.name ≡ name_of (info_of root)

@@ -27,7 +27,7 @@ use tor_tree::{Attr, FilePath, Name};
 
 /// The files at a place: file i of the source has the i-th path, and its letters.
 #[derive(Drop)]
-pub struct Found {
+pub struct LetteredFiles {
     pub source: FolderSource<HostRuntime>,
     pub files: Vec<(FilePath, Attr)>,
     /// It is one file, and not a folder's.
@@ -36,7 +36,7 @@ pub struct Found {
 
 /// The files at a place, before their letters are known: file i of the source has the i-th path.
 #[derive(Drop)]
-struct Placed {
+struct UnletteredFiles {
     source: FolderSource<HostRuntime>,
     paths: Vec<FilePath>,
     single: bool,
@@ -49,7 +49,7 @@ pub fn files_at(
     place: &str,
     attrs: Option<&str>,
     name: &Name,
-) -> Result<Found, Fault>
+) -> Result<LetteredFiles, Fault>
     ensures paths { IfOk result (λ found. AreFound name.now found.single (paths_of found.files.items)) }
     ensures letters { IfOk result
         (λ found. HaveLetters (option_map (λ place. place.now) attrs.entry) found.files.items) }
@@ -57,20 +57,20 @@ pub fn files_at(
     ensures stopped { IfErr result (IsNotFound name.now (option_map (λ place. place.now) attrs.entry)) }
 {
     let placed = paths_at(system, place, name)?;
-    let Placed {
+    let UnletteredFiles {
         source,
         paths,
         single,
     } = placed;
     let files = lettered_files(system, attrs, paths)?;
-    Ok(Found {
+    Ok(LetteredFiles {
         source,
         files,
         single,
     })
 }
 
-fn paths_at(system: &HostRuntime, place: &str, name: &Name) -> Result<Placed, ScanFault>
+fn paths_at(system: &HostRuntime, place: &str, name: &Name) -> Result<UnletteredFiles, ScanFault>
     ensures paths { IfOk result (λ placed. AreFound name.now placed.single placed.paths.items) }
     ensures each { IfOk result (λ placed. length placed.source ≡ length placed.paths.items) }
 {
@@ -78,7 +78,7 @@ fn paths_at(system: &HostRuntime, place: &str, name: &Name) -> Result<Placed, Sc
         Ok(metadata) if metadata.is_file() => Ok(one_file(system, place, name)?),
         _ => {
             let (source, paths) = FolderSource::scan(system, system.alloc(), place)?;
-            Ok(Placed {
+            Ok(UnletteredFiles {
                 source,
                 paths,
                 single: false,
@@ -87,14 +87,14 @@ fn paths_at(system: &HostRuntime, place: &str, name: &Name) -> Result<Placed, Sc
     }
 }
 
-fn one_file(system: &HostRuntime, place: &str, name: &Name) -> Result<Placed, AllocError>
+fn one_file(system: &HostRuntime, place: &str, name: &Name) -> Result<UnletteredFiles, AllocError>
     ensures single { IfOk result (λ placed. placed.single ≡ true) }
     ensures paths { IfOk result (λ placed. AreFound name.now placed.single placed.paths.items) }
     ensures each { IfOk result (λ placed. length placed.source ≡ length placed.paths.items) }
 {
     let alloc = system.alloc();
     let path = FilePath::of_name(alloc, name)?;
-    Ok(Placed {
+    Ok(UnletteredFiles {
         source: FolderSource::single(system, alloc, place)?,
         paths: vec![in alloc; path]?,
         single: true,
@@ -106,7 +106,7 @@ pub fn torrent_of<T: Threads + Wait + Sync>(
     rt: &T,
     alloc: Global,
     way: Way,
-    found: &Found,
+    found: &LetteredFiles,
     order: &Order,
     progress: &Option<Progress>,
 ) -> Result<Vec<u8>, MakeError<io::Error>>
@@ -128,7 +128,7 @@ pub fn torrent_of<T: Threads + Wait + Sync>(
 fn by_sharing<T: Threads + Sync>(
     rt: &T,
     alloc: Global,
-    found: &Found,
+    found: &LetteredFiles,
     order: &Order,
     progress: &Option<Progress>,
 ) -> Result<Vec<u8>, MakeError<io::Error>>
@@ -155,7 +155,7 @@ fn by_sharing<T: Threads + Sync>(
 fn by_streams<T: Threads + Wait + Sync>(
     rt: &T,
     alloc: Global,
-    found: &Found,
+    found: &LetteredFiles,
     order: &Order,
     progress: &Option<Progress>,
 ) -> Result<Vec<u8>, MakeError<io::Error>>
@@ -176,7 +176,7 @@ fn by_streams<T: Threads + Wait + Sync>(
 /// A reader of each file, in their order; what is read of it is counted, if that is to be shown.
 fn counted_readers<'a>(
     alloc: Global,
-    found: &Found,
+    found: &LetteredFiles,
     progress: &'a Option<Progress>,
 ) -> Result<Vec<CountedReader<'a, LazyFile<HostRuntime>>>, AllocError>
     ensures each { IfOk result (λ readers. map (λ counted. counted.reader) readers.items ≡ found.now.source) }

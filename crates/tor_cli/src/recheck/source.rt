@@ -17,13 +17,13 @@ use tor_tree::FilePath;
 
 /// A torrent, and where its files are looked for.
 #[derive(Drop)]
-pub struct Placed {
+pub struct PlacedTorrent {
     pub torrent: Torrent,
     pub source: FolderSource<HostRuntime>,
 }
 
 /// The torrent that the bytes are, and its files at a place, at which nothing is looked before the torrent was judged.
-pub fn placed_at(system: &HostRuntime, place: &str, bytes: &[u8]) -> Result<Placed, Fault>
+pub fn placed_at(system: &HostRuntime, place: &str, bytes: &[u8]) -> Result<PlacedTorrent, Fault>
     ensures told { IfOk result (λ placed. IsTold bytes.now placed.torrent) }
     ensures placed { IfOk result (λ placed. ArePlaced place.now placed.torrent placed.source) }
     ensures stopped { IfErr result (IsNotPlaced bytes.now) }
@@ -33,7 +33,7 @@ pub fn placed_at(system: &HostRuntime, place: &str, bytes: &[u8]) -> Result<Plac
         Err(refusal) => return Err(Fault::from(refusal)),
     };
     match source_at(system, place, &torrent) {
-        Ok(source) => Ok(Placed { torrent, source }),
+        Ok(source) => Ok(PlacedTorrent { torrent, source }),
         Err(fault) => Err(Fault::from(fault)),
     }
 }

@@ -7,8 +7,8 @@ use Rattle.std.specs.declared.cmp.Ordering.TheVariants.{Less}
 use Rattle.tor_tree.specs.Path.{path_cmp}
 use Rattle.tor_source.specs.steps.Listing.{HasSameNames, names_in}
 use Rattle.tor_source.specs.Places.{place_below}
-use Rattle.tor_source.specs.declared.walk.Entry.{Entry}
-use Rattle.tor_source.specs.declared.walk.Found.{Found}
+use Rattle.tor_source.specs.declared.walk.WaitingName.{WaitingName}
+use Rattle.tor_source.specs.declared.walk.FoundFiles.{FoundFiles}
 use Rattle.tor_tree.specs.declared.paths.TheConstants.{MAX_NAMES}
 
 -- files that were found below a place: their paths strictly rise and have at most 64 names, and each is where its
@@ -18,7 +18,7 @@ pub record IsFound (place : List ℕ) (paths : List (List (List ℕ))) (places :
   pub short : All (λ path. length path ≤ MAX_NAMES) paths
   pub placed : places ≡ map (place_below place) paths
 
-abbrev pub HasFound : List ℕ → Found → Type 0
+abbrev pub HasFound : List ℕ → FoundFiles → Type 0
 HasFound place found = IsFound place found.paths.items (map string_bytes found.places.items)
 
 -- each path comes before this one
@@ -36,28 +36,28 @@ pub record IsWaiting (found : List (List (List ℕ))) (waiting : List (List (Lis
   pub before : All (λ path. AreBefore path found) waiting
 
 -- the path of an entry, whose first names are those of the path that was entered last
-abbrev pub path_in : List (List ℕ) → Entry → List (List ℕ)
+abbrev pub path_in : List (List ℕ) → WaitingName → List (List ℕ)
 path_in last entry = take entry.depth last ++ entry.name.items ∷ []
 
-abbrev pub AreNested : List Entry → Type 0
+abbrev pub AreNested : List WaitingName → Type 0
 AreNested entries = AllPairs (λ later sooner. later.depth ≤ sooner.depth) entries
 
 -- entries that wait once a path was entered and dealt with
-pub record IsAhead (found : List (List (List ℕ))) (last : List (List ℕ)) (entries : List Entry) : Type 0 where
+pub record IsAhead (found : List (List (List ℕ))) (last : List (List ℕ)) (entries : List WaitingName) : Type 0 where
   pub paths : IsWaiting found (map (path_in last) entries)
   pub nested : AreNested entries
   pub within : All (λ entry. entry.depth ≤ length last) entries
 
 -- entries that wait while a path is entered
-pub record IsEntered (found : List (List (List ℕ))) (path : List (List ℕ)) (entries : List Entry) : Type 0 where
+pub record IsEntered (found : List (List (List ℕ))) (path : List (List ℕ)) (entries : List WaitingName) : Type 0 where
   pub paths : IsWaiting found (map (path_in path) entries ++ path ∷ [])
   pub nested : AreNested entries
   pub within : All (λ entry. entry.depth < length path) entries
 
-abbrev pub name_of : Entry → List ℕ
+abbrev pub name_of : WaitingName → List ℕ
 name_of entry = entry.name.items
 
 -- entries that waited before, and after them the names in a folder with this listing
-pub record HasAdded (listing : List ℕ) (before after : List Entry) : Type 0 where
+pub record HasAdded (listing : List ℕ) (before after : List WaitingName) : Type 0 where
   pub stay : take (length before) after ≡ before
   pub named : HasSameNames (names_in listing) (map name_of (drop (length before) after))

@@ -9,7 +9,7 @@ use Rattle.tor_tree.specs.FileList.{lengths_too_large}
 use Rattle.tor_tree.specs.declared.tree_file.TreeFile.{TreeFile}
 use Rattle.tor_tree.specs.declared.tree_file.TreeFault.{TreeFault}
 use Rattle.tor_tree.specs.declared.tree_file.TreeFault.TheVariants as faults
-use Rattle.tor_tree.specs.declared.entries.Entry.{Entry}
+use Rattle.tor_tree.specs.declared.entries.DescribedFile.{DescribedFile}
 use Rattle.tor_tree.specs.declared.properties.Properties.{Properties}
 
 -- the pieces root, if it is one of 32 bytes
@@ -34,15 +34,15 @@ path_if_any [] = None
 path_if_any (name ∷ names) = Some (name ∷ names)
 
 -- what is read of a file in the folder that these names lead to
-abbrev pub entry_at : List (List ℕ) → List (List ℕ) × Data → Entry
+abbrev pub entry_at : List (List ℕ) → List (List ℕ) × Data → DescribedFile
 entry_at folder file = record { path = path_if_any (folder ++ file.0); properties = facts_in file.1 }
 
 -- a file that is not empty has no root
-abbrev pub misses_root : Entry → Bool
+abbrev pub misses_root : DescribedFile → Bool
 misses_root entry = nat_lt 0 (unsigned_abs entry.properties.length) && is_none entry.properties.root
 
 -- the first fault, past that of the shape, of a tree with these entries
-abbrev pub entries_fault : List Entry → Bool → Option TreeFault
+abbrev pub entries_fault : List DescribedFile → Bool → Option TreeFault
 entries_fault entries mixes =
     if list_any (λ entry. int_lt entry.properties.length (pos 0)) entries then Some faults.Length else (
     if length entries == 0 then Some faults.Empty else (
@@ -52,7 +52,7 @@ entries_fault entries mixes =
     if list_any misses_root entries then Some faults.Root else None)))))
 
 -- the file of an entry that has a path
-abbrev pub file_from : Entry → TreeFile
+abbrev pub file_from : DescribedFile → TreeFile
 file_from entry = record {
   path = unwrap_or entry.path [];
   length = unsigned_abs entry.properties.length;

@@ -2,7 +2,7 @@ use Rattle.std.proofs.Common.{◌≡◌, ◌++◌, ◌∷◌, [], Some, Less, ge
 use Rattle.std.proofs.lemmas.List.Elements.{All-pop, All-from_recursion}
 use Rattle.tor_tree.specs.Path.{name_cmp}
 use Rattle.tor_source.specs.steps.Order.{IsWaiting, path_in}
-use Rattle.tor_source.specs.declared.walk.Entry.{Entry}
+use Rattle.tor_source.specs.declared.walk.WaitingName.{WaitingName}
 use Rattle.tor_source.proofs.Entries.{ahead_folder, ahead_name, path_inside}
 use Rattle.tor_source.proofs.FoundFiles.{rising_front}
 use Rattle.tor_source.proofs.Waiting.{waiting_inside, waiting_name}
@@ -29,7 +29,7 @@ loop-name-preserved g c =
     let left = c.pop.new.self.items in
     let entries = c.loop-name.waiting.items in
     let waiting = map (path_in above) entries in
-    let next : Entry = record { depth = length above; name = name } in
+    let next : WaitingName = record { depth = length above; name = name } in
     let items : c.loop-name.names.items ≡ left ++ name ∷ [] = c.in-Some.ensures.items in
     let front = rising_front (λ one next. name_cmp one.items next.items) left name
     (rw items at c.loop-name.invariant.0) in

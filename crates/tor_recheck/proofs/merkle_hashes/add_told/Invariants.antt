@@ -1,6 +1,6 @@
 -- the hashes of the pieces so far stand after the others
 use Rattle.tor_recheck.proofs.Names.{◌≡◌, ◌++◌, map, range_with_len, texts_of, told_hash}
-use Rattle.tor_recheck.proofs.told.add_told.Given as goal
+use Rattle.tor_recheck.proofs.merkle_hashes.add_told.Given as goal
 
 abbrev pub invariant-pieces : goal.invariant-pieces
 invariant-pieces l =

@@ -1,7 +1,7 @@
 -- one piece after the other
 use Rattle.tor_recheck.proofs.Names.{[], ◌∷◌, ◌++◌, map, unwrap_or, zero-add, append_assoc, ap, sym, ◌∙◌}
 use Rattle.tor_recheck.proofs.Names.{range_with_len, map-append, map-range_with_len_more, texts_of, told_hash}
-use Rattle.tor_recheck.proofs.told.add_told.Goals as goal
+use Rattle.tor_recheck.proofs.merkle_hashes.add_told.Goals as goal
 
 pub pieces-preserved : goal.pieces-preserved
 pieces-preserved c =

@@ -2,7 +2,7 @@
 use Rattle.tor_recheck.proofs.Names.{◌<◌, ◌++◌, ◌∷◌, [], ap, sym, subst, take, ◌∙◌, flat_map_more, take_all, take_more}
 use Rattle.tor_recheck.proofs.Names.{flat_map, hashes_of_file, texts_of, View}
 use Rattle.tor_recheck.proofs.NoCondition.{some_bytes}
-use Rattle.tor_recheck.proofs.told.told_hashes.Goals as goal
+use Rattle.tor_recheck.proofs.merkle_hashes.told_hashes.Goals as goal
 
 pub add_told-requires : goal.add_told-requires
 add_told-requires c =

@@ -1,6 +1,6 @@
 use Rattle.tor_check.proofs.Names.{refl, ◌∙◌, view, info_of}
 use Rattle.tor_check.proofs.Hybrids.{entries_if}
-use Rattle.tor_check.proofs.told.torrent_of.Goals as goal
+use Rattle.tor_check.proofs.described.torrent_of.Goals as goal
 
 pub returns : goal.returns
 returns c =

@@ -1,7 +1,7 @@
 use Rattle.tor_check.proofs.Names.{◌≡◌, true, false, ◌∙◌, ap, rules, subst, IfOk, unwrap_or, dictionary, no_pairs, view}
 use Rattle.tor_check.proofs.Names.{info_of, kind_of, files_of_both, has_v2, layers_of, seen}
 use Rattle.tor_check.proofs.Hybrids.{files_of_list_alone, lettered_if, tree_told}
-use Rattle.tor_check.proofs.told.files_of.Goals as goal
+use Rattle.tor_check.proofs.described.files_of.Goals as goal
 
 pub returns-then-not-has_v2 : goal.returns-then-not-has_v2
 returns-then-not-has_v2 c =

@@ -1,6 +1,6 @@
 use Rattle.tor_check.proofs.Names.{◌≡◌, true, ◌∙◌, rules, view, info_of, kind_of, has_v2}
 use Rattle.tor_check.proofs.Bounds.{few_in_files}
-use Rattle.tor_check.proofs.told.piece_count.Goals as goal
+use Rattle.tor_check.proofs.described.piece_count.Goals as goal
 
 pub pieces_of_tree-requires-clause-few : goal.pieces_of_tree-requires-clause-few
 pieces_of_tree-requires-clause-few c =

@@ -11,7 +11,7 @@ ghost use Rattle.tor_spec.specs.valid.ListSide.{side_piece_count};
 ghost use Rattle.tor_spec.specs.valid.View.{files_of, tree_piece_count, view_of};
 ghost use Rattle.tor_tree.specs.Kinds.{has_v1, has_v2};
 
-use crate::head::Head;
+use crate::head::CommonKeys;
 use crate::layer_keys::layers_of;
 use crate::parts::text;
 use crate::sides::Sides;
@@ -24,7 +24,7 @@ use tor_bencode::Item;
 pub fn torrent_of(
     alloc: Global,
     root: &Item,
-    head: &Head<'_>,
+    head: &CommonKeys<'_>,
     sides: Sides,
     info_span: (usize, usize),
 ) -> Result<Torrent, AllocError>
@@ -54,7 +54,7 @@ pub fn torrent_of(
 }
 
 /// How many pieces it has: those of the files one by one, or of the joined list.
-fn piece_count(root: &Item, head: &Head<'_>, sides: &Sides) -> u64
+fn piece_count(root: &Item, head: &CommonKeys<'_>, sides: &Sides) -> u64
     requires head { IsHeadOf (view root.now) head.now }
     requires sides { AreSidesOf (info_of (view root.now)) sides.now }
     requires judged { first_of_both (info_of (view root.now)) ≡ None }
@@ -71,7 +71,7 @@ fn piece_count(root: &Item, head: &Head<'_>, sides: &Sides) -> u64
 }
 
 /// The joined SHA-1 of each piece of the v1 side; no byte without that side.
-fn pieces_of(alloc: Global, head: &Head<'_>) -> Result<Vec<u8>, AllocError>
+fn pieces_of(alloc: Global, head: &CommonKeys<'_>) -> Result<Vec<u8>, AllocError>
     requires { head.now.kind ≡ kind_of (view head.now.info.now) }
     ensures pieces { IfOk result (λ pieces. pieces.items ≡ (if has_v1 (kind_of (view head.now.info.now))
         then text_of (part (codes "pieces") (view head.now.info.now)) else [])) }
@@ -90,7 +90,7 @@ fn pieces_of(alloc: Global, head: &Head<'_>) -> Result<Vec<u8>, AllocError>
 fn files_of(
     alloc: Global,
     root: &Item,
-    head: &Head<'_>,
+    head: &CommonKeys<'_>,
     sides: Sides,
 ) -> Result<Vec<ViewFile>, AllocError>
     requires keys { HasRisingKeys (view root.now) }
