@@ -52,11 +52,47 @@ prove_library() {
     call_rattle "$1" "$2" "$3.log" "${words[@]}" --jobs "$4" --statements -o "$3"
 }
 
-# Proves the program's own file over the libraries, compiles it for a processor, and links it, as the gate does.
+# Proves the program's own file over the libraries, compiles it for a processor, and links it, as the gate does. Its
+# object file stays beside it.
 build_program() {
     local words
     read_words "$1" tor
     call_rattle "$1" tor "$3.log" "${words[@]}" --cpu="$2" --jobs 1 --toolchain "$kit/toolchain" --backend llvm -o "$3.o"
     "$kit/bin/rattle-link" --target x86_64-unknown-linux-gnu --toolchain "$kit/toolchain" -o "$3" "$3.o" \
         "$kit/c/libos_c.a" "$kit/c/liblibc_c.a" >/dev/null
+}
+
+# What a static program is linked with of this machine: the start file and the archive of the C library (Debian's
+# libc6-dev), and what its compiler has for unwinding (libgcc-*-dev).
+static_parts() {
+    echo /usr/lib/x86_64-linux-gnu/rcrt1.o
+    echo /usr/lib/x86_64-linux-gnu/libc.a
+    find /usr/lib/gcc/x86_64-linux-gnu -name libgcc_eh.a 2>/dev/null | sort -V | tail -n 1
+}
+
+# Whether all of them are there.
+has_static_parts() {
+    local part count=0
+    for part in $(static_parts); do
+        [ -r "$part" ] || return 1
+        count=$((count + 1))
+    done
+    [ $count -eq 3 ]
+}
+
+# Their digest.
+static_digest() {
+    cat $(static_parts) | sha256sum | cut -d ' ' -f 1
+}
+
+# Links an object file, as `build_program` leaves it, into a program that asks for no file of the machine that it runs
+# on. Where it is loaded is for the system to choose.
+link_static() {
+    local lib=$kit/toolchain/lib start archive unwinding
+    { read -r start; read -r archive; read -r unwinding; } < <(static_parts)
+    "$kit/toolchain/bin/ld.lld" -m elf_x86_64 -static -pie --no-dynamic-linker -z text -z relro -z now \
+        -z noexecstack --eh-frame-hdr --gc-sections --no-dependent-libraries --strip-all --build-id=sha1 \
+        --fatal-warnings --threads=1 -o "$2" "$start" "$lib/crti.o" "$lib/crtbeginS.o" "$1" "$kit/c/libos_c.a" \
+        "$kit/c/liblibc_c.a" --start-group "$archive" "$lib/libgcc.a" "$unwinding" --end-group "$lib/crtendS.o" \
+        "$lib/crtn.o"
 }

@@ -10,7 +10,7 @@ from collections import namedtuple
 from pathlib import Path
 
 from refuser import TOLD, built
-from support import Told
+from support import Told, preloadable
 
 # A process that takes longer hangs.
 TIME_LIMIT = 60
@@ -25,7 +25,7 @@ class Again:
     """Runs one program in an address space of so many bytes. Its files are in a folder."""
 
     def __init__(self, program, folder, room):
-        self.program, self.room = str(program), room
+        self.program, self.room = preloadable(program), room
         self.out, self.err, self.told = (os.path.join(folder, f'again.{name}') for name in ('out', 'err', 'told'))
         self.place = os.path.join(folder, 'torrent.')
         self.library = built(Path(folder), 'again')

@@ -23,7 +23,7 @@ class Clone:
     def __init__(self, folder, program):
         self.root, self.temporary = folder / 'clone', folder / 'temporary'
         self.temporary.mkdir(parents=True)
-        for name in ['tor', 'dist/install', 'docs/tor.1', 'dist/completions']:
+        for name in ['tor', 'dist/install', 'dist/launch.sh', 'dist/from-source', 'docs/tor.1', 'dist/completions']:
             (self.root / name).parent.mkdir(parents=True, exist_ok=True)
             copy = shutil.copytree if (ROOT / name).is_dir() else shutil.copy2
             copy(ROOT / name, self.root / name)
@@ -37,14 +37,15 @@ class Clone:
         self.digest = self.run('tor', '--sources').out.decode().strip()
         (self.root / 'dist' / 'built-from').write_text(self.digest + '\n')
 
-    def run(self, name, *words, data=b''):
-        environment = {**os.environ, 'PATH': PATH, 'TMPDIR': str(self.temporary), 'LC_ALL': 'C'}
+    def run(self, name, *words, data=b'', path=None):
+        """Runs one of its scripts; commands are looked for in the folder `path` first."""
+        environment = {**os.environ, 'PATH': f'{path}:{PATH}' if path else PATH, 'TMPDIR': str(self.temporary), 'LC_ALL': 'C'}
         done = subprocess.run([self.root / name, *words], input=data, capture_output=True, timeout=60, check=False,
                               env=environment)
         return Told(done.returncode, done.stdout, done.stderr)
 
-    def expect(self, wanted, name, *words, data=b''):
-        told = self.run(name, *words, data=data)
+    def expect(self, wanted, name, *words, data=b'', path=None):
+        told = self.run(name, *words, data=data, path=path)
         expect_told([f'({name})', *words], wanted, told)
         return told
 
@@ -59,12 +60,6 @@ class Clone:
         (self.root / 'out').write_bytes(b'')
 
 
-def replaced(program, old, new):
-    if program.count(old) != 1 or len(old) != len(new):
-        raise Failure(f'the program does not have {old!r} once')
-    return program.replace(old, new)
-
-
 def with_first_instruction(program, code):
     """The program with other bytes where it begins."""
     entry, headers = struct.unpack_from('<QQ', program, 24)
@@ -77,16 +72,17 @@ def with_first_instruction(program, code):
 
 
 def programs_that_do_not_start(program):
-    """Each with a part of the reason that the system has."""
+    """Each with a part of the reason that is told."""
+    lacks = "this machine lacks a feature of x86-64-v2, which this program was built for: run it on another machine"
     return [
-        (replaced(program, b'GLIBC_2.34\0', b'GLIBC_9.99\0'), b"version `GLIBC_9.99' not found\n"),
-        (replaced(program, b'libc.so.6\0', b'libx.so.6\0'), b'libx.so.6'),
-        (replaced(program, b'/ld-linux-x86-64.so.2\0', b'/ld-other-x86-64.so.2\0'), b''),
-        (program[:18] + struct.pack('<H', 183) + program[20:], b'cannot execute binary file'),
+        (program[:18] + struct.pack('<H', 183) + program[20:], b'it is no program for x86-64\n'),
+        (b'', b'it is no program for x86-64\n'),
         (program[:4096], b'it ends with status '),
         (with_first_instruction(program, b'\x0f\x0b'), b'it ends with status 132\n'),
         (b'#!/bin/bash\nexit 3\n', b'it ends with status 3\n'),
         (b'#!/bin/bash\necho one >&2\necho two >&2\nexit 1\n', b'not start here: one\n'),
+        (f'#!/bin/bash\necho "{lacks}" >&2\nexit 127\n'.encode(),
+         b'this processor lacks instructions that it needs (x86-64-v2)\n'),
         (b'#!/absent/shell\n', b''),
     ]
 
@@ -119,8 +115,21 @@ def test_program_unpacked_elsewhere(program, folder):
     """What another machine has unpacked, and does not start on this one: dist/install sees it."""
     clone = Clone(folder, Path(program).read_bytes())
     place = Path(clone.run('tor', '--where').out.decode().strip())
-    place.write_bytes(replaced(place.read_bytes(), b'GLIBC_2.34\0', b'GLIBC_9.99\0'))
-    expect_not_started(clone, b'GLIBC_9.99', 'dist/install', str(folder / 'prefix'))
+    place.write_bytes(with_first_instruction(place.read_bytes(), b'\x0f\x0b'))
+    expect_not_started(clone, b'it ends with status 132\n', 'dist/install', str(folder / 'prefix'))
+
+
+def test_another_machine(program, folder):
+    """On another system or processor than x86-64 Linux: one line and status 70, and nothing is unpacked."""
+    clone = Clone(folder, Path(program).read_bytes())
+    other = folder / 'other'
+    other.mkdir()
+    (other / 'uname').write_text('#!/bin/sh\necho Linux aarch64\n')
+    (other / 'uname').chmod(0o755)
+    told = b'tor: the program is for x86-64 Linux, and this is Linux aarch64\n'
+    for name, *words in [('tor', '--version'), ('tor', '--where'), ('dist/install', str(folder / 'prefix'))]:
+        clone.expect(Told(70, b'', told), name, *words, path=other)
+    expect_equal('what is left', ([], []), clone.left())
 
 
 def test_program_is_tried_once(_, folder):
@@ -140,7 +149,7 @@ def test_program_that_starts(program, folder):
     clone = Clone(folder, Path(program).read_bytes())
     place = clone.run('tor', '--where').out.decode().strip()
     expect_equal('the program', True, Path(place).read_bytes() == Path(program).read_bytes())
-    clone.expect(Told(0, b'tor 0.1.0\n', b''), 'tor', '--version')
+    clone.expect(Told(0, b'tor 1.0.0\n', b''), 'tor', '--version')
     clone.expect(Told(3, b'', b'tor: read fault\n'), 'tor', 'check', str(folder / 'absent'))
     clone.expect(Told(1, b'', b'tor: N3 DotDot\n'), 'tor', 'make', '--name', '..', data=b'ab')
     shutil.rmtree(clone.root / 'out')
@@ -180,3 +189,62 @@ def test_install(program, folder):
     clone.expect(Told(1, b'', b'install: ' + told), 'dist/install', '--remove', str(prefix))
     expect_equal('files left', [prefix / 'bin' / 'tor'], [path for path in prefix.rglob('*') if not path.is_dir()])
     expect_equal('its bytes', b'of another', (prefix / 'bin' / 'tor').read_bytes())
+
+
+def test_install_as_another_name(program, folder):
+    """Man page and completions have the name, but for what the program prints; two names stand beside one another, and
+    each goes by itself."""
+    clone = Clone(folder, Path(program).read_bytes())
+    prefix = folder / 'prefix'
+    clone.expect(Told(0, b''.join(b'%s/%s\n' % (os.fsencode(prefix), place.encode()) for place in PLACES), b''),
+                 'dist/install', str(prefix))
+    other = [place.replace('tor', 'plover') for place in PLACES]
+    clone.expect(Told(0, b''.join(b'%s/%s\n' % (os.fsencode(prefix), place.encode()) for place in other), b''),
+                 'dist/install', '--as', 'plover', str(prefix))
+    page = (prefix / 'share/man/man1/plover.1').read_text()
+    for line in ['.TH PLOVER 1 ', 'plover \\- make', '\\fBplover make', '.B plover\n', 'with \\fBtor:\\fR', "'tor make"]:
+        expect_equal(f'{line} in the man page', True, line in page)
+    expect_equal('complete', 'complete -F _tor plover',
+                 (prefix / 'share/bash-completion/completions/plover').read_text().splitlines()[-1])
+    told = b''.join(b'removed %s/%s\n' % (os.fsencode(prefix), place.encode()) for place in PLACES)
+    clone.expect(Told(0, told, b''), 'dist/install', '--remove', str(prefix))
+    expect_equal('files left', sorted([*other, 'share/plovercasket/installed']),
+                 sorted(str(path.relative_to(prefix)) for path in prefix.rglob('*') if not path.is_dir()))
+    clone.expect(Told(0, told.replace(b'/tor', b'/plover').replace(b'_tor', b'_plover').replace(b'/plover-tests', b'/tor-tests'), b''), 'dist/install', '--remove', '--as=plover', str(prefix))
+    expect_equal('files left', [], [path for path in prefix.rglob('*') if not path.is_dir()])
+    for name in ['', 'a b', 'A', '-x', '../x']:
+        told = b'install: a name has small letters, digits and hyphens, and begins with a letter\n'
+        clone.expect(Told(2, b'', told), 'dist/install', f'--as={name}', str(prefix))
+
+
+def test_install_beside_another_program(program, folder):
+    """Another program of the name is told of, whether it comes first on the PATH or after this one."""
+    clone = Clone(folder, Path(program).read_bytes())
+    prefix, before, after = folder / 'prefix', folder / 'before', folder / 'after'
+    for place in before, after:
+        place.mkdir()
+        (place / 'tor').write_text('#!/bin/sh\n')
+        (place / 'tor').chmod(0o755)
+    told = clone.run('dist/install', str(prefix), path=f'{before}:{prefix}/bin:{after}')
+    wanted = (f'install: {before}/tor is another program, and comes first on the PATH\n'
+              f'install: {after}/tor is another program, which this one comes before on the PATH\n').encode()
+    expect_equal('what is told', (0, wanted), (told.status, told.err))
+
+
+def test_packages(program, folder):
+    """The same bytes each time; the archive's installer puts the program that it has."""
+    wanted = Path(program).read_bytes()
+    for place in 'one', 'two':
+        subprocess.run([ROOT / 'dist/package', folder / place], check=True, stdout=subprocess.DEVNULL)
+    made = sorted(path.name for path in (folder / 'one').iterdir())
+    expect_equal('the packages', ['plovercasket-1.0.0-x86_64-linux.tar.gz', 'plovercasket_1.0.0_amd64.deb'], made)
+    for name in made:
+        expect_equal(name, True, (folder / 'one' / name).read_bytes() == (folder / 'two' / name).read_bytes())
+    subprocess.run(['tar', '-xzf', folder / 'one' / made[0], '-C', folder], check=True)
+    unpacked = folder / made[0].removesuffix('.tar.gz')
+    subprocess.run([unpacked / 'install', folder / 'prefix'], check=True, stdout=subprocess.DEVNULL)
+    packed = {path.read_bytes() for path in (unpacked / 'programs').iterdir()}
+    expect_equal('the program is in the archive', True, (folder / 'prefix/bin/tor').read_bytes() in packed)
+    expect_equal('its version', b'tor 1.0.0\n', subprocess.check_output([folder / 'prefix/bin/tor', '--version']))
+    listed = subprocess.check_output(['dpkg-deb', '-c', folder / 'one' / made[1]]).split()
+    expect_equal('the command', True, b'./usr/bin/plovercasket' in listed and wanted != b'')

@@ -725,13 +725,20 @@ def tree_marks(torrent, contents):
     return marks
 
 
+def side_by_side(*lists):
+    """The items of lists, which have to be of one length, at each index."""
+    if len({len(one) for one in lists}) > 1:
+        raise ValueError('lists of several lengths')
+    return zip(*lists)
+
+
 def marks_of(torrent, contents):
     sides = []
     if torrent.has_list:
         sides.append(list_marks(torrent, contents))
     if torrent.has_tree:
         sides.append(tree_marks(torrent, contents))
-    return [all(of_sides) for of_sides in zip(*sides, strict=True)]
+    return [all(of_sides) for of_sides in side_by_side(*sides)]
 
 
 def recheck_lines(marks):
@@ -766,7 +773,7 @@ def files_found(torrent, contents):
     """What is told of each file; where there is a tree, by the tree alone."""
     marks = (tree_marks if torrent.has_tree else list_marks)(torrent, contents)
     found = []
-    for file, span, content in zip(torrent.files, spans_of(torrent), contents, strict=True):
+    for file, span, content in side_by_side(torrent.files, list(spans_of(torrent)), contents):
         good = sum(marks[i] for i in span)
         there = None if content is None else len(content)
         state = ('missing' if there is None else 'short' if there < file.length else 'bad' if good < len(span)

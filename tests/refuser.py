@@ -11,7 +11,7 @@ import subprocess
 from collections import namedtuple
 from pathlib import Path
 
-from support import Failure, Skipped, shown_words
+from support import Failure, Skipped, preloadable, shown_words
 
 # A run that takes longer hangs.
 TIME_LIMIT = 60
@@ -33,7 +33,7 @@ class Refuser:
     met, but its runs are faster than those of `support`."""
 
     def __init__(self, program, folder, library=None):
-        self.program = str(program)
+        self.program = preloadable(program) if library is None else str(program)
         self.out, self.err, self.told = (str(Path(folder) / f'run.{name}') for name in ('out', 'err', 'told'))
         self.library = built(Path(folder)) if library is None else library
 

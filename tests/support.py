@@ -1,6 +1,8 @@
 """What all tests share: runs of the program, and how a failure is told."""
+import os
 import subprocess
 from collections import namedtuple
+from pathlib import Path
 
 Told = namedtuple('Told', 'status out err')
 
@@ -14,6 +16,19 @@ class Failure(Exception):
 
 class Skipped(Exception):
     """A test that cannot be run here, and why."""
+
+
+# The environment variable that names the program as it loads the C library of the machine.
+DYNAMIC = 'TOR_DYNAMIC'
+
+
+def preloadable(program):
+    """The program as it loads the C library of the machine, for tests that put a library of their own before that. A
+    static program loads none."""
+    for place in os.environ.get(DYNAMIC), program:
+        if place and b'/ld-linux-x86-64' in Path(place).read_bytes()[:4096]:
+            return str(place)
+    raise Skipped('it needs a program that loads its C library: --dynamic')
 
 
 def run(program, words, data=b'', folder=None, **more):

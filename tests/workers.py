@@ -8,7 +8,7 @@ import time
 import reference
 from reference import BLOCK, encode, sha1
 from refuser import ALL_LATER, TIME_LIMIT, Meet, Refuser, built, read_met, wait
-from support import Failure, expect_equal
+from support import Failure, expect_equal, preloadable
 from terminal import sparse
 
 SIZE = 1 << 30
@@ -210,7 +210,7 @@ def test_one_where_no_number_is_told(program, folder):
                           (['make', '--name', 'a', '--how', 'board', '--workers', 'auto', path], 1),
                           (['make', '--name', 'a', '--how', 'halves', '--workers=auto', path], 1),
                           (['make', '--name', 'a', '--how', 'streams', '--workers', 'auto', path], 2)]:
-        came, _, ended = watch('env', [*environment, program, *words])
+        came, _, ended = watch('env', [*environment, preloadable(program), *words])
         if came != wanted:
             raise Failure(f'{" ".join(words)}, on no number of processors\nwanted  {wanted} threads\ncame    {came}')
         expect_equal('status and the calls that were met', (0, b'p -1 -1 \n'), ended)

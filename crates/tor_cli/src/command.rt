@@ -72,7 +72,7 @@ fn tor_command<'a>(alloc: Global) -> Result<Command<'a>, AllocError>
         × (app_of command ≡ tor_app kinds hows)) }
 {
     let top = Command::new(alloc, "tor")
-        .version("0.1.0")
+        .version("1.0.0")
         .about("Makes, checks and rechecks BitTorrent metainfo files, and proves single pieces")
         .after_help(MORE)
         .subcommand_required(true)
