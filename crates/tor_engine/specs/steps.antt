@@ -1,5 +1,6 @@
 pub mod Asked
 pub mod Failing
+pub mod Hashed
 pub mod Pieces
 pub mod RowSums
 pub mod Taken

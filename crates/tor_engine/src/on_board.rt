@@ -1,12 +1,9 @@
 //! Units hashed by workers that share a board.
-ghost use Rattle.std.specs.Prelude.{◌≡◌, ◌≤◌, ◌^◌, None, All, IfErr, IfOk, IsPermutation, MatchResult, length, map};
+ghost use Rattle.std.specs.Prelude.{◌≡◌, ◌≤◌, ◌^◌, All, IsPermutation, length, map};
 ghost use Rattle.std.specs.List.{range_with_len};
+ghost use Rattle.tor_engine.specs.steps.Hashed.{AreHashed};
 ghost use Rattle.tor_plan.specs.Forest.{AreRuns};
-ghost use Rattle.tor_source.specs.Source.{SourceFacts};
-ghost use Rattle.tor_sums.specs.Fault.{IsFault, first_of};
-ghost use Rattle.tor_sums.specs.steps.Each.{SumUpEach};
 ghost use Rattle.tor_sums.specs.steps.Places.{AreNumbers};
-ghost use Rattle.tor_sums.specs.steps.Roots.{roots_of_trees};
 
 use crate::halves::by_halves;
 use crate::seats::SeatShare;
@@ -33,13 +30,8 @@ where
     requires units { All (W.may_hash work.now) units.now }
     requires few { length units.now ≤ 2 ^ 62 }
     requires runs { AreRuns (length units.now) 0 forest.now.trees.items }
-    ensures summed { IfOk result (λ r. SumUpEach (W.sums_up work.now) units.now r.0.items) }
-    ensures roots { IfOk result (λ r. r.1.items
-        ≡ roots_of_trees (map (W.hash_in work.now) r.0.items) forest.now.trees.items) }
-    ensures fault { (facts : SourceFacts W.Fault) → W.is_steady work.now facts →
-        MatchResult result (λ _. first_of (W.fault work.now facts) units.now ≡ None)
-        (IsFault (first_of (W.fault work.now facts) units.now)) }
-    ensures gave { IfErr result (W.gave work.now) }
+    ensures { AreHashed (W.hash_in work.now) (W.sums_up work.now) (W.is_steady work.now) (W.fault work.now)
+        (W.gave work.now) units.now forest.now.trees.items result }
 {
     let (board, seat) = Board::open(work.alloc(), forest, units.len() as u64)?;
     // The seat is halved, and not the units: each worker claims from all of them.

@@ -1,10 +1,7 @@
 //! The units of a plan hashed, by whatever workers.
-ghost use Rattle.std.specs.Prelude.{◌≡◌, ◌≤◌, ◌^◌, None, All, IfErr, IfOk, MatchResult, length, map};
+ghost use Rattle.std.specs.Prelude.{◌≤◌, ◌^◌, All, length};
+ghost use Rattle.tor_engine.specs.steps.Hashed.{AreHashed};
 ghost use Rattle.tor_plan.specs.Forest.{AreRuns};
-ghost use Rattle.tor_source.specs.Source.{SourceFacts};
-ghost use Rattle.tor_sums.specs.Fault.{IsFault, first_of};
-ghost use Rattle.tor_sums.specs.steps.Each.{SumUpEach};
-ghost use Rattle.tor_sums.specs.steps.Roots.{roots_of_trees};
 
 use crate::on_board::hash_on_board;
 use crate::roots::{hashes_of, roots_of_trees};
@@ -31,13 +28,8 @@ where
     requires units { All (W.may_hash work.now) units.now }
     requires few { length units.now ≤ 2 ^ 62 }
     requires runs { AreRuns (length units.now) 0 forest.now.trees.items }
-    ensures summed { IfOk result (λ r. SumUpEach (W.sums_up work.now) units.now r.0.items) }
-    ensures roots { IfOk result (λ r. r.1.items
-        ≡ roots_of_trees (map (W.hash_in work.now) r.0.items) forest.now.trees.items) }
-    ensures fault { (facts : SourceFacts W.Fault) → W.is_steady work.now facts →
-        MatchResult result (λ _. first_of (W.fault work.now facts) units.now ≡ None)
-        (IsFault (first_of (W.fault work.now facts) units.now)) }
-    ensures gave { IfErr result (W.gave work.now) }
+    ensures { AreHashed (W.hash_in work.now) (W.sums_up work.now) (W.is_steady work.now) (W.fault work.now)
+        (W.gave work.now) units.now forest.now.trees.items result }
 {
     match how {
         How::One => hash_on_board(rt, work, units, forest, 1),

@@ -42,8 +42,8 @@ returns-in-Ok g c =
       gave = tt;
     }
 
-pub returns-in-Err-clause-fault : goal.returns-in-Err-clause-fault
-returns-in-Err-clause-fault g c =
+pub returns-in-Err : goal.returns-in-Err
+returns-in-Err g c =
     let w = g.W.UnitWork in
     let work = c.args.work.now in
     let units = c.args.units.now in
@@ -54,7 +54,12 @@ returns-in-Err-clause-fault g c =
     AnswersSeat (w.number_in work) (w.hash_in work) (w.sums_up work) (w.is_steady work) (w.fault work) (w.gave work)
     units (knows c.in_ok-board.seat) (knows c.by_halves-seated.result.seat) r) c.in-Err.is c.by_halves-seated.ensures.2
     in
-    λ facts steady. subst (IsFault (first_of (w.fault work facts) units)) (sym c.into_error.ensures)
-    (least_fault (w.number_in work) (w.hash_in work) (w.sums_up work) (w.is_steady work) (w.fault work) (w.gave work)
-    units (knows c.in_ok-board.seat) (knows c.by_halves-seated.result.seat) bare c.close-closed.result.least_failed
-    c.close-closed.ensures.least all c.in-Err.failure answers facts steady)
+    record {
+      summed = tt;
+      roots = tt;
+      fault = λ facts steady. subst (IsFault (first_of (w.fault work facts) units)) (sym c.into_error.ensures)
+          (least_fault (w.number_in work) (w.hash_in work) (w.sums_up work) (w.is_steady work) (w.fault work)
+          (w.gave work) units (knows c.in_ok-board.seat) (knows c.by_halves-seated.result.seat) bare
+          c.close-closed.result.least_failed c.close-closed.ensures.least all c.in-Err.failure answers facts steady);
+      gave = subst (w.gave work) (sym c.into_error.ensures) answers.gave;
+    }

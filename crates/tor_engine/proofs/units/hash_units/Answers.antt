@@ -16,13 +16,3 @@ roots_of_trees-requires g c =
     subst (λ (n : ℕ). AreRuns n 0 c.deref-in-Halves.result.now) count
     (subst (λ (runs : List Run). AreRuns (length c.args.units.now) 0 runs) (sym c.deref-in-Halves.ensures.value)
     c.requires.runs)
-
-pub returns-in-One : goal.returns-in-One
-returns-in-One g c =
-    let board = c.hash_on_board.ensures in
-    record { summed = board.summed; roots = board.roots; fault = board.fault; gave = board.gave }
-
-pub returns-in-Board : goal.returns-in-Board
-returns-in-Board g c =
-    let board = c.hash_on_board-in-Board.ensures in
-    record { summed = board.summed; roots = board.roots; fault = board.fault; gave = board.gave }
