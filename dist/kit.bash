@@ -85,14 +85,36 @@ static_digest() {
     cat $(static_parts) | sha256sum | cut -d ' ' -f 1
 }
 
+# Members of the C library's archive that load others while a program runs: character sets (iconv), libraries (dlopen),
+# name services (NSS). glibc's start files ask for most of them, in an empty C program too.
+loading='^(gconv.*|iconv.*|dl-(open|close|load|libc|sym|deps|cache|version)|dl(open|sym|close|error|mopen|vsym|info|addr)|rtld_static_init|nss.*|getnss.*)\.o$'
+
+# What the other members ask of these. Only to turn wide characters, or to read a catalog of messages, are they called,
+# and then the program ends.
+ends_at=(__gconv __gconv_btwoc_ascii __gconv_close_transform __gconv_create_spec __gconv_destroy_spec
+    __gconv_find_transform __gconv_lock __gconv_open __gconv_release_step __gconv_transform_ascii_internal
+    __gconv_transform_internal_ascii)
+
+# A copy of the archive that has none of them: a program that is linked with it cannot load any.
+without_loading() {
+    cp "$1" "$2"
+    chmod u+w "$2"
+    "$kit/toolchain/bin/llvm-ar" t "$2" | grep -E "$loading" | sort -u |
+        xargs "$kit/toolchain/bin/llvm-ar" d "$2"
+}
+
 # Links an object file, as `build_program` leaves it, into a program that asks for no file of the machine that it runs
-# on. Where it is loaded is for the system to choose.
+# on. Where it is loaded is for the system to choose. `_dl_init_paths` would prepare the search for libraries.
 link_static() {
-    local lib=$kit/toolchain/lib start archive unwinding
+    local lib=$kit/toolchain/lib start archive unwinding symbol status=0 instead=(--defsym=_dl_init_paths=abs)
     { read -r start; read -r archive; read -r unwinding; } < <(static_parts)
+    for symbol in "${ends_at[@]}"; do instead+=("--defsym=$symbol=abort"); done
+    without_loading "$archive" "$2.library.a"
     "$kit/toolchain/bin/ld.lld" -m elf_x86_64 -static -pie --no-dynamic-linker -z text -z relro -z now \
         -z noexecstack --eh-frame-hdr --gc-sections --no-dependent-libraries --strip-all --build-id=sha1 \
         --fatal-warnings --threads=1 -o "$2" "$start" "$lib/crti.o" "$lib/crtbeginS.o" "$1" "$kit/c/libos_c.a" \
-        "$kit/c/liblibc_c.a" --start-group "$archive" "$lib/libgcc.a" "$unwinding" --end-group "$lib/crtendS.o" \
-        "$lib/crtn.o"
+        "$kit/c/liblibc_c.a" --start-group "$2.library.a" "$lib/libgcc.a" "$unwinding" --end-group \
+        "$lib/crtendS.o" "$lib/crtn.o" "${instead[@]}" || status=$?
+    rm -f "$2.library.a"
+    return $status
 }
