@@ -2,12 +2,12 @@
 //! status that comes back.
 #![tactic(auto)]
 
-ghost use Rattle.std.specs.Prelude.{◌≡◌, ◌≢◌, ◌≤◌, IfOk, map, string_bytes};
+ghost use Rattle.std.specs.Prelude.{◌≡◌, IfOk, map, string_bytes};
 ghost use Rattle.std.specs.Process.{exit_status};
 ghost use Rattle.std.specs.Vec.Iter.{into_iter_items};
 ghost use Rattle.clap.specs.Walk.{texts};
-ghost use Rattle.tor_cli.specs.make.Request.{DoesAsked, EndsAsked};
-ghost use Rattle.tor_cli.specs.declared.answer.Answer.TheVariants.{Yes};
+ghost use Rattle.tor_cli.specs.make.Request.{IsRunOf};
+ghost use Rattle.tor_cli.specs.Streams.{streams};
 
 use std::alloc::{AllocError, Global};
 use std::env;
@@ -77,19 +77,9 @@ fn run_over<T: Threads + Wait + Sync + Send + Clone + Drop + 'static, R: Read, W
     err: &mut E,
     shows_progress: bool,
 ) -> ExitCode
-    ensures within { exit_status result ≤ 4 }
-    ensures done { exit_status result ≡ 0 → DoesAsked (texts words.entry.now) (record {
-      reader = R.remaining reader.old;
-      reader' = R.remaining reader.new;
-      writer = W.contents out.old;
-      writer' = W.contents out.new;
-    }) Yes }
-    ensures stopped { exit_status result ≢ 0 → EndsAsked (texts words.entry.now) (record {
-      reader = R.remaining reader.old;
-      reader' = R.remaining reader.new;
-      writer = W.contents out.old;
-      writer' = W.contents out.new;
-    }) (exit_status result) }
+    ensures { IsRunOf (texts words.entry.now)
+        (streams (R.remaining reader.old) (R.remaining reader.new) (W.contents out.old) (W.contents out.new))
+        (exit_status result) }
 {
     ExitCode::from(run(rt, system, words, reader, out, err, shows_progress))
 }

@@ -1,9 +1,9 @@
 //! The whole program, over any reader and writers.
 ghost use Rattle.clap.specs.Walk.{texts};
-ghost use Rattle.std.specs.Prelude.{◌≡◌, ◌≢◌, ◌≤◌, ℕ, IfErr, IfOk, Ok, OnOk, string_bytes};
+ghost use Rattle.std.specs.Prelude.{◌≡◌, ℕ, IfErr, IfOk, Ok, OnOk, string_bytes};
 ghost use Rattle.std.specs.Io.KnownBytes.{Appends};
 ghost use Rattle.tor_meta.specs.FromInput.{IsFront};
-ghost use Rattle.tor_cli.specs.make.Request.{Does, DoesAsked, EndsAsked, Stops, StopsAsked};
+ghost use Rattle.tor_cli.specs.make.Request.{Does, DoesAsked, IsRunOf, Stops, StopsAsked};
 ghost use Rattle.tor_cli.specs.steps.Ending.{done_of, status_after};
 ghost use Rattle.tor_cli.specs.Streams.{streams};
 ghost use Rattle.tor_cli.specs.declared.answer.Answer.TheVariants.{Yes};
@@ -34,10 +34,7 @@ pub fn run<T: Threads + Wait + Sync + Send + Clone + Drop + 'static, R: Read, W:
     err: &mut E,
     shows_progress: bool,
 ) -> u8
-    ensures within { result ≤ 4 }
-    ensures done { result ≡ 0 → DoesAsked (texts words.entry.now)
-        (streams (R.remaining reader.old) (R.remaining reader.new) (W.contents out.old) (W.contents out.new)) Yes }
-    ensures stopped { result ≢ 0 → EndsAsked (texts words.entry.now)
+    ensures { IsRunOf (texts words.entry.now)
         (streams (R.remaining reader.old) (R.remaining reader.new) (W.contents out.old) (W.contents out.new)) result }
 {
     let outcome = answer(rt, system, words, reader, out, shows_progress);

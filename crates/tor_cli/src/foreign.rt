@@ -29,7 +29,7 @@ pub fn read_file<H: Files>(alloc: Global, system: &H, place: &str) -> Result<Vec
 }
 
 /// What the torrent describes that the bytes are, and its info hashes; or why they are none.
-pub fn judge(alloc: Global, bytes: &[u8]) -> Result<Judged, Refusal>
+pub fn torrent_with_hashes(alloc: Global, bytes: &[u8]) -> Result<Judged, Refusal>
     ensures accepted { IfOk result (λ judged. IsTorrentWith bytes.now judged.torrent judged.hashes) }
     ensures refused { IfErr result (IsRefusedFor bytes.now) }
 {

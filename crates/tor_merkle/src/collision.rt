@@ -4,7 +4,7 @@ ghost use Rattle.std.specs.Prelude.{◌≡◌, ◌≢◌, ℕ, ◌%◌, ◌==◌
 ghost use Rattle.sha2.specs.Sha256.{sha256};
 ghost use Rattle.tor_merkle.specs.Proof.{is_proof};
 
-use crate::hash::{Hash, joined, leaf};
+use crate::hash::{Hash, leaf, node_bytes};
 use crate::proof::Proof;
 
 /// Two different texts of 64 bytes with one SHA-256, if two different hashes have accepted proofs for one index under
@@ -44,8 +44,8 @@ fn children(index: u64, hash: &Hash, sibling: &Hash) -> [u8; 64]
     ensures lengths { (length hash.now ≡ 32) × (length sibling.now ≡ 32) }
 {
     if index % 2 == 0 {
-        joined(hash, sibling)
+        node_bytes(hash, sibling)
     } else {
-        joined(sibling, hash)
+        node_bytes(sibling, hash)
     }
 }

@@ -4,7 +4,7 @@ ghost use Rattle.std.specs.Prelude.{◌≡◌, ℕ, ◌+◌, ◌*◌, ◌^◌, �
 ghost use Rattle.tor_merkle.specs.Subtree.{node_of, zero_subtree};
 ghost use Rattle.tor_merkle.specs.steps.Node.{node};
 
-use crate::hash::{Hash, joined, zero};
+use crate::hash::{Hash, node_bytes, zero};
 use tor_hashes::node_hashes;
 
 /// The first eight nodes of the level `above` over hashes, roots of subtrees of `2^level` leaves; past their end stand
@@ -53,14 +53,14 @@ fn nodes_over(left: &[Hash; 8], right: &[Hash; 8]) -> [Hash; 8]
         ≡ node_of (slice_index_or right.now (2 * i) []) (slice_index_or right.now (2 * i + 1) []) }
 {
     let texts = [
-        joined(&left[0], &left[1]),
-        joined(&left[2], &left[3]),
-        joined(&left[4], &left[5]),
-        joined(&left[6], &left[7]),
-        joined(&right[0], &right[1]),
-        joined(&right[2], &right[3]),
-        joined(&right[4], &right[5]),
-        joined(&right[6], &right[7]),
+        node_bytes(&left[0], &left[1]),
+        node_bytes(&left[2], &left[3]),
+        node_bytes(&left[4], &left[5]),
+        node_bytes(&left[6], &left[7]),
+        node_bytes(&right[0], &right[1]),
+        node_bytes(&right[2], &right[3]),
+        node_bytes(&right[4], &right[5]),
+        node_bytes(&right[6], &right[7]),
     ];
     node_hashes(texts.as_flattened())
 }

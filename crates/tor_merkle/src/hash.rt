@@ -28,7 +28,7 @@ pub fn pair(left: &Hash, right: &Hash) -> Hash
 }
 
 /// The 64 bytes of two children, which [`pair`] hashes.
-pub(crate) fn joined(left: &Hash, right: &Hash) -> [u8; 64]
+pub(crate) fn node_bytes(left: &Hash, right: &Hash) -> [u8; 64]
     ensures bytes { result ≡ left.now ++ right.now }
     ensures long { length result ≡ 64 }
 {

@@ -40,10 +40,10 @@ impl<T> History<T> {
     pub fn with(&self, items: &[T]) -> History<T>
         ensures { result.items ≡ self.now.items ++ items.now }
     {
-        self.joined(&Run { items })
+        self.after(&Run { items })
     }
 
-    fn joined(&self, _run: &Run<'_, T>) -> History<T>
+    fn after(&self, _run: &Run<'_, T>) -> History<T>
         ensures { result.items ≡ self.now.items ++ _run.now.items.now }
     {
         History { of: PhantomData }

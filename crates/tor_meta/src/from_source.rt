@@ -84,7 +84,7 @@ pub fn make_with<S: Source, R: Threads + Sync>(
     ensures gave { IfErr result (IsGivenTo (S.answers source.now) (length files.now)) }
 {
     let head = order.head(alloc)?;
-    let paths = match judge(alloc, order, &head, files) {
+    let paths = match accepted_paths(alloc, order, &head, files) {
         Ok(paths) => paths,
         Err(error) => return Err(error),
     };
@@ -117,7 +117,7 @@ pub(crate) fn without_letters(
 }
 
 /// The paths in order, if no torrent is refused for them or for the order.
-fn judge<F>(
+fn accepted_paths<F>(
     alloc: Global,
     order: &Order,
     head: &Head,
@@ -160,40 +160,16 @@ fn ask_lettered<S: Source>(
     ensures only { (first : Option (MakeError S.Fault)) → IfErr result (IsOwn first) }
     ensures gave { IfErr result (IsGivenTo (S.answers source.now) (length paths)) }
 {
-    let (list, indices) = match ask_list(alloc, source, paths) {
-        Ok(both) => both,
-        Err(error) => return Err(error),
-    };
-    let attrs = attrs_at(alloc, files, &indices)?;
-    Ok((list.with_attrs(attrs), indices))
-}
-
-/// The list of the files of the source that have these paths, without letters, and the index of each.
-fn ask_list<S: Source>(
-    alloc: Global,
-    source: &S,
-    paths: PathList,
-) -> Result<(FileList, Vec<usize>), MakeError<S::Fault>>
-    ensures list { IfOk result (λ both. (lengths : List ℕ) × (length lengths ≡ length paths)
-        × HasToldLengths (S.answers source.now) lengths
-        × (both.0.files ≡ map (λ entry. (entry.0, slice_index lengths entry.1)) paths)) }
-    ensures indices { IfOk result (λ both. both.1.items ≡ indices_of paths) }
-    ensures files { (facts : SourceFacts S.Fault) → S.is_steady source.now facts →
-        IfOk result (λ both. both.0.files ≡ listed_files facts paths) }
-    ensures fault { (facts : SourceFacts S.Fault) → S.is_steady source.now facts → MatchResult result
-        (λ _. asked_fault facts (length paths) ≡ None)
-        (λ error. (error ≡ out_of_resources) ⊎ (asked_fault facts (length paths) ≡ Some error)) }
-    ensures only { (first : Option (MakeError S.Fault)) → IfErr result (IsOwn first) }
-    ensures gave { IfErr result (IsGivenTo (S.answers source.now) (length paths)) }
-{
     let lengths = match ask_lengths(alloc, source, paths.entries().len()) {
         Ok(lengths) => lengths,
         Err(error) => return Err(MakeError::from(error)),
     };
-    match paths.with_lengths(alloc, &lengths) {
-        Ok(both) => Ok(both),
-        Err(fault) => Err(MakeError::from(ContentsError::from(fault))),
-    }
+    let (list, indices) = match paths.with_lengths(alloc, &lengths) {
+        Ok(both) => both,
+        Err(fault) => return Err(MakeError::from(ContentsError::from(fault))),
+    };
+    let attrs = attrs_at(alloc, files, &indices)?;
+    Ok((list.with_attrs(attrs), indices))
 }
 
 /// The letters of the files at these indices.

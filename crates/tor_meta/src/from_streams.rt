@@ -97,7 +97,7 @@ pub fn make_streams_with<R: Read + Drop, T: Threads + Wait + Sync>(
     ensures gave { IfErr result (IsGivenByReaders (map R.remaining readers.items)) }
 {
     let head = order.head(alloc)?;
-    let paths = match judge(alloc, order, &head, files) {
+    let paths = match accepted_paths(alloc, order, &head, files) {
         Ok(paths) => paths,
         Err(error) => return Err(error),
     };
@@ -172,7 +172,7 @@ fn sums_of<R: Read + Drop, T: Threads + Wait + Sync>(
 }
 
 /// The paths, if no torrent is refused for them or for the order.
-fn judge(
+fn accepted_paths(
     alloc: Global,
     order: &Order,
     head: &Head,

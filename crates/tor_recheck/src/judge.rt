@@ -15,7 +15,7 @@ use tor_merkle::Hash;
 const SUM_LENGTH: usize = 20;
 
 /// For each piece whether it is there, and has what each side of the torrent has for it.
-pub(crate) fn judge(
+pub(crate) fn verified_bits(
     alloc: Global,
     torrent: &Torrent,
     hashes: &[Option<PieceHash>],
@@ -34,7 +34,7 @@ pub(crate) fn judge(
 }
 
 /// For each piece whether it is there, and has its Merkle hash.
-pub(crate) fn judge_merkle(
+pub(crate) fn merkle_verified_bits(
     alloc: Global,
     torrent: &Torrent,
     hashes: &[Option<PieceHash>],

@@ -17,7 +17,7 @@ ghost use Rattle.tor_v1.specs.Entries.{file_entry};
 
 use crate::bits::Bits;
 use crate::errors::RecheckError;
-use crate::judge::judge;
+use crate::judge::verified_bits;
 use std::alloc::{AllocError, Global};
 use std::thread::Threads;
 use tor_check::{Torrent, ViewFile};
@@ -55,7 +55,7 @@ pub fn recheck<S: Source, R: Threads + Sync>(
         Ok(found) => found,
         Err(error) => return Err(error),
     };
-    let bits = judge(alloc, torrent, &found.hashes)?;
+    let bits = verified_bits(alloc, torrent, &found.hashes)?;
     Ok(bits)
 }
 

@@ -15,7 +15,7 @@ ghost use Rattle.tor_spec.specs.Verified.{verified_pieces};
 use crate::bits::Bits;
 use crate::errors::RecheckError;
 use crate::files::{FileFound, files_of};
-use crate::judge::{judge, judge_merkle};
+use crate::judge::{merkle_verified_bits, verified_bits};
 use crate::rechecking::found_in;
 use std::alloc::{AllocError, Global};
 use std::thread::Threads;
@@ -62,7 +62,7 @@ pub fn recheck_files<S: Source, R: Threads + Sync>(
         Ok(found) => found,
         Err(error) => return Err(error),
     };
-    let bits = judge(alloc, torrent, &found.hashes)?;
+    let bits = verified_bits(alloc, torrent, &found.hashes)?;
     let files = files_by(alloc, torrent, &found, &bits)?;
     Ok(Findings { bits, files })
 }
@@ -83,6 +83,6 @@ fn files_by(
     if !torrent.kind().has_v2() {
         return files_of(alloc, torrent, right, &found.lengths);
     }
-    let held = judge_merkle(alloc, torrent, &found.hashes)?;
+    let held = merkle_verified_bits(alloc, torrent, &found.hashes)?;
     files_of(alloc, torrent, &held, &found.lengths)
 }

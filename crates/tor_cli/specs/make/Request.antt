@@ -1,6 +1,7 @@
 -- What the program does for a request: what it reads and writes, and where a fault stops it.
-use Rattle.std.specs.Prelude.{◌≡◌, ◌⊎◌, ◌<◌, ◌≢◌, ◌∷◌, [], ℕ, Bool, List, length, true, option_map, Option, None}
-use Rattle.std.specs.Prelude.{Some, IsSome}
+use Rattle.std.specs.Prelude.{◌≡◌, ◌⊎◌, ◌<◌, ◌≤◌, ◌≢◌, ◌∷◌, [], ℕ, Bool, List, length, true, option_map, Option, None}
+use Rattle.std.specs.Prelude.{Some, IsSome, IfErr, IfOk, OnOk, Result, Vec}
+use Rattle.std.specs.declared.alloc.Global.{Global}
 use Rattle.std.specs.Prelude.{string_bytes}
 use Rattle.std.specs.Io.KnownBytes.{Appends, Keeps}
 use Rattle.std.specs.declared.io.Error.{Error}
@@ -146,6 +147,16 @@ abbrev pub IsRefusedFirst : Option (MakeError Error) → MakeError Error → Typ
 IsRefusedFirst first error = (refusal : MakeError Error) → first ≡ Some refusal
     → (error ≡ out_of_resources) ⊎ (error ≡ refusal)
 
+-- what is answered of files that were found, if this keeps their order from being done, and this may be told of one of
+-- them: the torrent of some contents of theirs, or why there is none
+pub record IsMadeOfFound (first : Option (MakeError Error)) (may_tell : MakeError Error → Type 0) (order : Order)
+    (files : List (List (List ℕ) × Attr)) (result : Result (Vec ℕ Global) (MakeError Error)) : Type 0 where
+  pub whole : IfOk result (λ bytes. IsMadeOfSome (settings_of_order order) files bytes.items)
+  pub accepted : OnOk result (first ≡ None)
+  pub refused : IfErr result (IsRefusedFirst first)
+  pub only : IfErr result (IsOwn first)
+  pub gave : IfErr result may_tell
+
 -- why there is no torrent of the files at a place
 abbrev pub StopsFinding : MakeOptions → Fault → Type 0
 StopsFinding options (Name fault) = name_fault options.name.now ≡ Some fault
@@ -243,3 +254,9 @@ StopsAsked words s fault =
 abbrev pub EndsAsked : List (List ℕ) → Streams → ℕ → Type 0
 EndsAsked words s status = ((status ≡ 1) × DoesAsked words s No)
     ⊎ ((fault : Fault) × (status ≡ status_of fault) × StopsAsked words s fault)
+
+-- what a run over these words did, which ended with this status
+pub record IsRunOf (words : List (List ℕ)) (s : Streams) (status : ℕ) : Type 0 where
+  pub within : status ≤ 4
+  pub done : status ≡ 0 → DoesAsked words s Yes
+  pub stopped : status ≢ 0 → EndsAsked words s status

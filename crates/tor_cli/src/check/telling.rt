@@ -7,7 +7,7 @@ ghost use Rattle.tor_cli.specs.steps.Writing.{writing};
 use crate::check::record::check_line;
 use crate::check::shown::{check_lines, ended_paths, magnet_line};
 use crate::fault::Fault;
-use crate::foreign::{judge, read_file};
+use crate::foreign::{read_file, torrent_with_hashes};
 use std::alloc::Global;
 use std::io::Write;
 use tor_meta::write_out;
@@ -48,7 +48,7 @@ fn lines_of(alloc: Global, bytes: &[u8], telling: Telling) -> Result<String, Fau
     ensures printed { IfOk result (λ lines. AreLinesOf (lines_of telling) bytes.now (string_bytes lines)) }
     ensures stopped { IfErr result (IsNoTorrent bytes.now) }
 {
-    let judged = judge(alloc, bytes)?;
+    let judged = torrent_with_hashes(alloc, bytes)?;
     Ok(match telling {
         Telling::Lines => check_lines(alloc, &judged.torrent, &judged.hashes)?,
         Telling::Link => magnet_line(alloc, &judged.hashes)?,

@@ -1,16 +1,13 @@
 //! From a file or a folder of the system to the torrent of it.
-ghost use Rattle.std.specs.Prelude.{◌≡◌, IfErr, IfOk, None, OnOk, length, map, option_map, true, vec_len};
-ghost use Rattle.std.specs.declared.io.Error.{Error};
-ghost use Rattle.tor_meta.specs.Contents.{IsMadeOfSome};
-ghost use Rattle.tor_meta.specs.Make.{IsGivenTo, IsOwn, make_refusal};
+ghost use Rattle.std.specs.Prelude.{◌≡◌, IfErr, IfOk, length, map, option_map, true, vec_len};
+ghost use Rattle.tor_meta.specs.Make.{IsGivenTo, make_refusal};
 ghost use Rattle.tor_meta.specs.MakeStreams.{stream_refusal};
-ghost use Rattle.tor_meta.specs.Order.{settings_of_order};
 ghost use Rattle.tor_source.specs.Answers.{system_answers};
 ghost use Rattle.tor_cli.specs.make.Attrs.{HaveLetters};
 ghost use Rattle.tor_cli.specs.Place.{AreFound, IsGivenBy, IsStreamFault};
 ghost use Rattle.tor_cli.specs.Place.{IsNotFound, refusal_by};
 ghost use Rattle.tor_tree.specs.FileList.{paths_of};
-ghost use Rattle.tor_cli.specs.make.Request.{IsRefusedFirst};
+ghost use Rattle.tor_cli.specs.make.Request.{IsMadeOfFound};
 
 use crate::fault::Fault;
 use crate::make::attrs_file::lettered_files;
@@ -111,12 +108,8 @@ pub fn torrent_of<T: Threads + Wait + Sync>(
     progress: &Option<Progress>,
 ) -> Result<Vec<u8>, MakeError<io::Error>>
     requires { length found.now.source ≡ length found.now.files.items }
-    ensures whole { IfOk result
-        (λ bytes. IsMadeOfSome (settings_of_order order.now) found.now.files.items bytes.items) }
-    ensures accepted { OnOk result (refusal_by way order.now (paths_of found.now.files.items) ≡ None) }
-    ensures refused { IfErr result (IsRefusedFirst (refusal_by way order.now (paths_of found.now.files.items))) }
-    ensures only { IfErr result (IsOwn (refusal_by way order.now (paths_of found.now.files.items))) }
-    ensures gave { IfErr result (IsGivenBy way (length found.now.files.items)) }
+    ensures { IsMadeOfFound (refusal_by way order.now (paths_of found.now.files.items))
+        (IsGivenBy way (length found.now.files.items)) order.now found.now.files.items result }
 {
     match way {
         Way::Shared(_) => by_sharing(rt, alloc, found, order, progress),
@@ -133,13 +126,9 @@ fn by_sharing<T: Threads + Sync>(
     progress: &Option<Progress>,
 ) -> Result<Vec<u8>, MakeError<io::Error>>
     requires { length found.now.source ≡ length found.now.files.items }
-    ensures whole { IfOk result
-        (λ bytes. IsMadeOfSome (settings_of_order order.now) found.now.files.items bytes.items) }
-    ensures accepted { OnOk result (make_refusal {F = Error} order.now (paths_of found.now.files.items) ≡ None) }
-    ensures refused { IfErr result (IsRefusedFirst (make_refusal order.now (paths_of found.now.files.items))) }
-    ensures only { IfErr result (IsOwn (make_refusal order.now (paths_of found.now.files.items))) }
-    ensures gave { let count = length found.now.files.items in
-        IfErr result (IsGivenTo (system_answers count) count) }
+    ensures { let count = length found.now.files.items in
+        IsMadeOfFound (make_refusal order.now (paths_of found.now.files.items))
+        (IsGivenTo (system_answers count) count) order.now found.now.files.items result }
 {
     let counting = Counting {
         source: &found.source,
@@ -160,12 +149,8 @@ fn by_streams<T: Threads + Wait + Sync>(
     progress: &Option<Progress>,
 ) -> Result<Vec<u8>, MakeError<io::Error>>
     requires { length found.now.source ≡ length found.now.files.items }
-    ensures whole { IfOk result
-        (λ bytes. IsMadeOfSome (settings_of_order order.now) found.now.files.items bytes.items) }
-    ensures accepted { OnOk result (stream_refusal {F = Error} order.now (paths_of found.now.files.items) ≡ None) }
-    ensures refused { IfErr result (IsRefusedFirst (stream_refusal order.now (paths_of found.now.files.items))) }
-    ensures only { IfErr result (IsOwn (stream_refusal order.now (paths_of found.now.files.items))) }
-    ensures gave { IfErr result (IsStreamFault (length found.now.files.items)) }
+    ensures { IsMadeOfFound (stream_refusal order.now (paths_of found.now.files.items))
+        (IsStreamFault (length found.now.files.items)) order.now found.now.files.items result }
 {
     let readers = counted_readers(alloc, found, progress)?;
     let answer = make_streams_with(rt, alloc, readers, &found.files, order);

@@ -8,15 +8,15 @@ use Rattle.tor_cli.proofs.CheckAfter.{as_made, not_as_made, not_kept}
 use Rattle.tor_cli.proofs.Rechecking.{err_is, not_rechecked, places_count}
 use Rattle.tor_cli.proofs.make.check_after.check_after.Goals as goal
 
-pub returns-in-Ok-counted_pieces-clause-kept : goal.returns-in-Ok-counted_pieces-clause-kept
-returns-in-Ok-counted_pieces-clause-kept g c =
-    as_made c.args.bytes.now c.in-Ok.placed.torrent c.in-Ok-counted_pieces.counts c.in-Ok.ensures.told
-    c.in-Ok-counted_pieces.ensures.counted c.all_good.result c.all_good.ensures.kept
+pub returns-in-Ok-counted-clause-kept : goal.returns-in-Ok-counted-clause-kept
+returns-in-Ok-counted-clause-kept g c =
+    as_made c.args.bytes.now c.in-Ok.placed.torrent c.in-Ok-counted.counts c.in-Ok.ensures.told
+    c.in-Ok-counted.ensures.counted c.all_good.result c.all_good.ensures.kept
 
-pub returns-in-Ok-counted_pieces-clause-stopped : goal.returns-in-Ok-counted_pieces-clause-stopped
-returns-in-Ok-counted_pieces-clause-stopped g c =
-    not_as_made c.args.bytes.now c.in-Ok.placed.torrent c.in-Ok-counted_pieces.counts c.in-Ok.ensures.told
-    c.in-Ok-counted_pieces.ensures.counted c.args.workers c.all_good.result c.all_good.ensures.refused
+pub returns-in-Ok-counted-clause-stopped : goal.returns-in-Ok-counted-clause-stopped
+returns-in-Ok-counted-clause-stopped g c =
+    not_as_made c.args.bytes.now c.in-Ok.placed.torrent c.in-Ok-counted.counts c.in-Ok.ensures.told
+    c.in-Ok-counted.ensures.counted c.args.workers c.all_good.result c.all_good.ensures.refused
 
 pub returns-clause-stopped : goal.returns-clause-stopped
 returns-clause-stopped g c =
@@ -24,12 +24,12 @@ returns-clause-stopped g c =
     let workers = c.args.workers in
     let view = c.in-Ok.placed.torrent in
     let source = c.in-Ok.placed.source in
-    let error = c.in-Err-counted_pieces.error in
-    let why = c.in-Err-counted_pieces.ensures in
+    let error = c.in-Err-counted.error in
+    let why = c.in-Err-counted.ensures in
     let count = places_count c.args.place.now view source c.in-Ok.ensures.placed in
     rw c.from.ensures
     (not_kept workers bytes (of_recheck_error error)
     (not_rechecked bytes view c.in-Ok.ensures.told workers error
     (subst (λ (n : ℕ). IsGiven (system_answers n) (length view.files) error) count why.gave)
     why.allowed
-    (λ none. err_is error Workers _ c.in-Err-counted_pieces.is (c.counted_pieces.ensures.refused none))))
+    (λ none. err_is error Workers _ c.in-Err-counted.is (c.count_pieces-counted.ensures.workers none))))

@@ -1,7 +1,7 @@
 -- the second half is written after the first
 use Rattle.tor_merkle.proofs.Names.{◌≡◌, ℕ, List, ◌++◌, length, drop, arith, refl, ap, ap₂, ◌∙◌, take_at, drop_at}
 use Rattle.tor_merkle.proofs.Names.{drop_all, append-nil, length-append, put_mid}
-use Rattle.tor_merkle.proofs.hash.joined.Goals as goal
+use Rattle.tor_merkle.proofs.hash.node_bytes.Goals as goal
 
 second_half : (n : ℕ) (a b z : List ℕ) → length a ≡ n → length z ≡ n → put_mid n n (a ++ z) b ≡ a ++ b
 second_half n a b z e rest =

@@ -1,4 +1,4 @@
--- `joined` makes the empty struct, with the items that its clause names. Assumes `Logic`.
+-- `after` makes the empty struct, with the items that its clause names. Assumes `Logic`.
 use Rattle.std.proofs.Common.{List, [], ◌∷◌, ◌++◌, refl}
 use seplogic.Ra.Ura.{Ura}
 use mir.Syntax.{Fn, Args, a_type}
@@ -34,10 +34,10 @@ use Rattle.std.specs.contracts.marker.PhantomData as Mark
 use Rattle.tor_merkle.proofs.Walks.{none, one, one_made}
 use Rattle.tor_merkle.specs.contracts.trail.History as History
 use Rattle.tor_merkle.specs.contracts.trail.Run as Run
-use Rattle.tor_merkle.specs.contracts.trail.History.joined as F
-use Rattle.tor_merkle.specs.contracts.trail.History.joined.Key.{name as #self}
-use Rattle.tor_merkle.proofs.trail.History.joined.Statement as stated
-use Rattle.tor_merkle.proofs.trail.History.joined.Code as code
+use Rattle.tor_merkle.specs.contracts.trail.History.after as F
+use Rattle.tor_merkle.specs.contracts.trail.History.after.Key.{name as #self}
+use Rattle.tor_merkle.proofs.trail.History.after.Statement as stated
+use Rattle.tor_merkle.proofs.trail.History.after.Code as code
 
 module _ (T : RattleType) where
   abbrev args : Args
@@ -105,9 +105,9 @@ module _ (T : RattleType) where
         ) held
         (WpFn 𝓤 H 𝓣.C 𝓣.Λ function) (WpFn-mono 𝓤 H 𝓛.laws 𝓣 function) (walks 𝓣.C 𝓣.Λ)
 
-pub joined_spec : {M : Type 1} → stated.statement M
+pub after_spec : {M : Type 1} → stated.statement M
 unfolding tables_of
-joined_spec 𝓤 𝓛 𝓜 𝓡 wired T L =
+after_spec 𝓤 𝓛 𝓜 𝓡 wired T L =
     let 𝓣 : Tables 𝓤 𝓛.H = tables_of 𝓤 𝓛.H 𝓜 (tables 𝓤 𝓛.H 𝓜 𝓡 𝓡.env) in
     entered 𝓤 𝓛.H (triple_of 𝓛 (ended T).signature (closing 𝓛 (ended T) (held T 𝓛 𝓜.mem 𝓡.returns))) 𝓣.C 𝓣.Λ
     (#self (args T)) (function T) (code.unfolded 𝓤 𝓛.H 𝓜 𝓡 wired (T, tt)) (meets T 𝓛 𝓜.mem 𝓡.returns 𝓣)

@@ -5,7 +5,7 @@ use Rattle.tor_meta.specs.Hashes.{AreInfoHashes}
 use Rattle.tor_spec.specs.valid.Parts.{info_of}
 use Rattle.tor_spec.specs.valid.View.{View}
 use Rattle.tor_cli.proofs.Judging.{has_info, info_found}
-use Rattle.tor_cli.proofs.foreign.judge.Goals as goal
+use Rattle.tor_cli.proofs.foreign.torrent_with_hashes.Goals as goal
 
 pub info_hashes-hashes-requires : goal.info_hashes-hashes-requires
 info_hashes-hashes-requires c =
