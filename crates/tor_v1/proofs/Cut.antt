@@ -80,7 +80,7 @@ one_piece p xs some short =
     ∙ ap (λ piece. piece ∷ [])
     (ap (λ n. take p (drop n xs)) (let e : 0 * p ≡ 0 = omega arith in e) ∙ take_all p xs short)
 
-sums_of_one : (p : ℕ) (xs : List ℕ) → 0 < length xs → length xs ≤ p → piece_sums p xs ≡ sha1 xs
+pub sums_of_one : (p : ℕ) (xs : List ℕ) → 0 < length xs → length xs ≤ p → piece_sums p xs ≡ sha1 xs
 unfolding piece_sums
 sums_of_one p xs some short = ap (flat_map sha1) (one_piece p xs some short) ∙ append-nil (sha1 xs)
 

@@ -1,7 +1,8 @@
 //! The SHA-1 of each piece of a content that is fed in parts.
-ghost use Rattle.std.specs.Prelude.{◌≡◌, ◌+◌, ◌*◌, ◌^◌, ◌<◌, ◌≤◌, ℕ, List, [], ◌++◌, length, OnOk, OnErr, IsOk};
-ghost use Rattle.std.specs.Prelude.{vec_len, vec_capacity, true};
+ghost use Rattle.std.specs.Prelude.{◌≡◌, ◌+◌, ◌-◌, ◌*◌, ◌^◌, ◌<◌, ◌≤◌, ℕ, List, [], ◌++◌, length, OnOk, OnErr, IsOk};
+ghost use Rattle.std.specs.Prelude.{replicate, vec_len, vec_capacity, true};
 ghost use Rattle.std.specs.Int.{div_ceil};
+ghost use Rattle.std.specs.List.{flat_map};
 ghost use Rattle.sha1.specs.Sha1.{Holds, sha1};
 ghost use Rattle.tor_v1.specs.Piece.{IsV1PieceLength, max_piece_length, piece_sums, zeros};
 
@@ -73,9 +74,7 @@ impl PieceSums {
         self.make_room(count)?;
         let mut left = count;
         'parts: while left > 0 {
-            let length = left.min(ZEROS_LENGTH as u64);
-            self.add(zeros(length as usize));
-            left -= length;
+            left -= self.add_zeros(left);
         }
         Ok(())
     }
@@ -160,6 +159,39 @@ impl PieceSums {
         end_run(run, self.piece_length as usize, &mut self.sums);
     }
 
+    // Adds zeros, at most `left`, and answers how many: whole pieces where none is begun, else of one piece.
+    fn add_zeros(&mut self, left: u64) -> u64
+        requires some { 0 < left }
+        requires small { left ≤ max_piece_length }
+        requires room { HasRoom self.old left }
+        ensures some { (0 < result) × (result ≤ left) }
+        ensures fed { Feeds self.old self.new (zeros result) }
+        ensures room { HasRoom self.new (left - result) }
+    {
+        let whole = left / self.piece_length;
+        if self.begun == 0 && whole > 0 {
+            let count = whole * self.piece_length;
+            self.add_zero_pieces(whole);
+            return count;
+        }
+        let most = left.min(ZEROS_LENGTH as u64);
+        let count = most.min(self.piece_length - self.begun);
+        self.add_to_piece(zeros(count as usize));
+        count
+    }
+
+    // Adds so many whole pieces of zeros, where none is begun. All have one hash, which is computed once.
+    fn add_zero_pieces(&mut self, count: u64)
+        requires none { self.old.begun ≡ 0 }
+        requires room { HasRoom self.old (count * self.old.piece_length) }
+        ensures fed { Feeds self.old self.new (zeros (count * self.old.piece_length)) }
+        ensures room { (later : ℕ) → HasRoom self.old (count * self.old.piece_length + later) →
+            HasRoom self.new later }
+    {
+        let sum = sum_of_zeros(self.piece_length);
+        push_often(&sum, count, &mut self.sums);
+    }
+
     // Adds bytes of one piece.
     fn add_to_piece(&mut self, part: &[u8])
         requires within { self.old.begun + length part.now ≤ self.old.piece_length }
@@ -188,6 +220,34 @@ fn end_piece(hasher: &mut Sha1, sums: &mut Vec<u8>)
     let sum = mem::replace(hasher, Sha1::new()).finalize();
     // There is room.
     let _ = sums.extend_from_slice(&sum);
+}
+
+/// The SHA-1 of so many zeros.
+fn sum_of_zeros(count: u64) -> [u8; DIGEST_LEN]
+    ensures value { result ≡ sha1 (zeros count) }
+    ensures len { length result ≡ 20 }
+{
+    let mut hasher = Sha1::new();
+    let mut left = count;
+    'parts: while left > 0 {
+        let length = left.min(ZEROS_LENGTH as u64);
+        hasher.update(zeros(length as usize));
+        left -= length;
+    }
+    hasher.finalize()
+}
+
+/// Puts the hash of as many pieces of zeros after those before them, for which there is room.
+fn push_often(sum: &[u8; DIGEST_LEN], count: u64, sums: &mut Vec<u8>)
+    requires { vec_len sums.old + 20 * count ≤ vec_capacity sums.old }
+    ensures joined { sums.new.items ≡ sums.old.items ++ flat_map (λ x. x) (replicate count sum.now) }
+    ensures len { vec_len sums.new ≡ vec_len sums.old + 20 * count }
+    ensures capacity { vec_capacity sums.old ≤ vec_capacity sums.new }
+{
+    'pieces: for _ in 0..count {
+        // There is room.
+        let _ = sums.extend_from_slice(sum);
+    }
 }
 
 /// So many zeros.

@@ -5,14 +5,14 @@ use Rattle.tor_v1.proofs.sums.PieceSums.add_run.Goals as goal
 
 pub end_run-requires-clause-room : goal.end_run-requires-clause-room
 end_run-requires-clause-room c =
-    room_run c.args.self.now _ c.requires.fits.none c.requires.length c.requires.room
+    room_run 8 c.args.self.now _ c.requires.fits.none c.requires.length c.requires.room
 
 pub returns-clause-fed : goal.returns-clause-fed
 returns-clause-fed c = λ p before fed.
-    adds_run c.args.self.now p before fed _ c.args.run.now c.requires.fits.none c.requires.length refl
+    adds_run 8 c.args.self.now p before fed _ c.args.run.now c.requires.fits.none c.requires.length refl
     c.requires.fits.none refl c.end_run.ensures.hashed
 
 pub returns-clause-room : goal.returns-clause-room
 returns-clause-room c = λ later room.
-    room_after c.args.self.now _ later _ _ c.requires.fits.none c.requires.length c.end_run.ensures.len
+    room_after 8 c.args.self.now _ later _ _ c.requires.fits.none c.requires.length c.end_run.ensures.len
     c.end_run.ensures.capacity room

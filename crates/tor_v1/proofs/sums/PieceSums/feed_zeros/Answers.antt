@@ -1,11 +1,10 @@
--- each part is within what is left
-use Rattle.std.proofs.Common.{◌≡◌, [], sym, append-nil, ◌+◌, ◌-◌, ◌++◌, length, arith, ap, ◌∙◌, subst, append_assoc}
+-- what was added is of what is left
+use Rattle.std.proofs.Common.{◌≡◌, [], sym, append-nil, ◌+◌, ◌-◌, ◌++◌, arith, ap, ◌∙◌, subst, append_assoc}
 use Rattle.tor_v1.specs.Feeding.{HasFed}
 use Rattle.tor_v1.specs.Piece.{zeros}
-use Rattle.tor_v1.specs.steps.Room.{HasRoom}
 use Rattle.std.proofs.lemmas.Bool.{false≢true}
-use Rattle.tor_v1.proofs.Fed.{room_less, room_within}
-use Rattle.tor_v1.proofs.Zeros.{zeros-nil, length-zeros, zeros-append}
+use Rattle.tor_v1.proofs.Fed.{room_within}
+use Rattle.tor_v1.proofs.Zeros.{zeros-nil, zeros-append}
 use Rattle.tor_v1.proofs.sums.PieceSums.feed_zeros.Goals as goal
 
 pub returns-in_err-make_room-clause-within : goal.returns-in_err-make_room-clause-within
@@ -22,28 +21,19 @@ parts-init c = record {
   room = c.in_ok-make_room.ensures.room;
 }
 
-pub add-requires : goal.add-requires
-add-requires c =
-    let long = ap length c.zeros.ensures ∙ length-zeros c.min-length.result in
-    room_less c.parts.self _ _ (omega (arith, long, c.min-length.ensures)) c.parts.invariant.room
-
 pub parts-preserved : goal.parts-preserved
 parts-preserved c =
-    let n = c.min-length.result in
+    let n = c.add_zeros-left.result in
     let fed = c.args.count - c.parts.left in
     let later = c.args.count - (c.parts.left - n) in
-    let sum : fed + n ≡ later = omega (arith, c.min-length.ensures, c.parts.invariant.within) in
-    let all : zeros fed ++ c.zeros.result.now ≡ zeros later =
-    ap (λ xs. zeros fed ++ xs) c.zeros.ensures ∙ zeros-append fed n ∙ ap zeros sum in
-    let long = ap length c.zeros.ensures ∙ length-zeros n in
+    let sum : fed + n ≡ later = omega (arith, c.add_zeros-left.ensures.some, c.parts.invariant.within) in
+    let all : zeros fed ++ zeros n ≡ zeros later = zeros-append fed n ∙ ap zeros sum in
     record {
       within = omega (arith, c.parts.invariant.within);
       fed = λ p before held.
-          let same : (before ++ zeros fed) ++ c.zeros.result.now ≡ before ++ zeros later =
-          rw (append_assoc before (zeros fed) c.zeros.result.now, all) in
-          subst (HasFed c.add.new.self p) same
-          (c.add.ensures.fed p (before ++ zeros fed) (c.parts.invariant.fed p before held));
-      room = c.add.ensures.room _ (subst (HasRoom c.parts.self)
-          (let e : c.parts.left ≡ length c.zeros.result.now + (c.parts.left - n) =
-          omega (arith, long, c.min-length.ensures) in e) c.parts.invariant.room);
+          let same : (before ++ zeros fed) ++ zeros n ≡ before ++ zeros later =
+          rw (append_assoc before (zeros fed) (zeros n), all) in
+          subst (HasFed c.add_zeros-left.new.self p) same
+          (c.add_zeros-left.ensures.fed p (before ++ zeros fed) (c.parts.invariant.fed p before held));
+      room = c.add_zeros-left.ensures.room;
     }

@@ -1,0 +1,23 @@
+-- whole pieces of zeros at once, where none is begun
+use Rattle.std.proofs.Common.{◌++◌, ◌*◌, ap, arith, ◌∙◌, refl, replicate}
+use Rattle.std.specs.List.{flat_map}
+use Rattle.tor_v1.proofs.RunSums.{adds_run, room_run, room_after, sums_of_same}
+use Rattle.tor_v1.proofs.Zeros.{length-zeros}
+use Rattle.tor_v1.proofs.sums.PieceSums.add_zero_pieces.Goals as goal
+
+pub push_often-requires : goal.push_often-requires
+push_often-requires c = room_run c.args.count c.args.self.now _ c.requires.none refl c.requires.room
+
+pub returns-clause-fed : goal.returns-clause-fed
+returns-clause-fed c = λ p before fed.
+    let some = c.args.self.now.allowed.0 in
+    adds_run c.args.count c.args.self.now p before fed _ _ c.requires.none
+    (length-zeros (c.args.count * c.args.self.now.piece_length)) refl c.requires.none refl
+    (c.push_often.ensures.joined
+    ∙ ap (λ sum. c.args.self.now.sums.items ++ flat_map (λ x. x) (replicate c.args.count sum)) c.sum_of_zeros-sum.ensures.value
+    ∙ ap (λ xs. c.args.self.now.sums.items ++ xs) (sums_of_same c.args.self.now.piece_length (omega arith) c.args.count))
+
+pub returns-clause-room : goal.returns-clause-room
+returns-clause-room c = λ later room.
+    room_after c.args.count c.args.self.now _ later _ _ c.requires.none refl c.push_often.ensures.len
+    c.push_often.ensures.capacity room
