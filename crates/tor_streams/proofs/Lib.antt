@@ -5,6 +5,7 @@ pub mod CutLists
 pub mod Cutting
 pub mod FedLanes
 pub mod FilesContent
+pub mod OwedChunks
 pub mod Readers
 pub mod SortedUnits
 pub mod StreamContent

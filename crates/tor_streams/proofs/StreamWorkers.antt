@@ -1,8 +1,7 @@
 -- The workers of a lane, while they take, and once they are done.
-use Rattle.std.proofs.Common.{◌≡◌, false, List, [], ◌∷◌, ◌++◌, length, map, arith, get_or, set, ap, ap₂, sym, ◌∙◌}
+use Rattle.std.proofs.Common.{◌≡◌, false, List, [], ◌∷◌, ◌++◌, length, arith, get_or, set, ap, sym, ◌∙◌}
 use Rattle.std.proofs.Common.{length-append, refl, subst}
 use Rattle.std.specs.Prelude.{All}
-use Rattle.std.proofs.lemmas.List.{map-append}
 use Rattle.std.proofs.lemmas.List.Elements.{recursion_from_All}
 use Rattle.std.specs.List.{AllByRecursion}
 use Rattle.tor_lane.specs.Lane.{FeedsLaneOf, IsAtMark, IsTakerOf, TakesFromLaneOf, taken_by}
@@ -11,8 +10,7 @@ use Rattle.tor_lane.specs.declared.feeder.Feeder.{Feeder}
 use Rattle.tor_lane.specs.declared.taker.Taker.{Taker}
 use Rattle.tor_streams.specs.declared.chunking.Chunking.{Chunking}
 use Rattle.tor_streams.specs.declared.stream_worker.StreamWorker.{StreamWorker}
-use Rattle.tor_sums.specs.declared.unit_sums.UnitSums.{UnitSums}
-use Rattle.tor_streams.specs.steps.Cuts.{facts_of, facts_of_chunk}
+use Rattle.tor_streams.specs.steps.OwedChunks.{AreOwed}
 use Rattle.tor_streams.specs.steps.StreamWorkers.{AreDone, AreWorkers, IsDoneOf, IsWorkerOf, TookAll}
 
 -- ---- lists
@@ -73,33 +71,36 @@ module _ (chunking : Chunking) (feeder : Feeder) where
   -- one chunk more was taken, and hashed where no memory was refused
   pub worker_more : (old mid new : StreamWorker) (chunk : Chunk) → IsWorkerOf chunking feeder old
       → TakesFromLaneOf old.taker mid.taker → taken_by mid.taker ≡ taken_by old.taker ++ chunk ∷ []
-      → mid.sums ≡ old.sums → mid.is_refused ≡ old.is_refused → new.taker ≡ mid.taker
+      → mid.sums ≡ old.sums → mid.owing ≡ old.owing → mid.is_refused ≡ old.is_refused → new.taker ≡ mid.taker
       → (new.is_refused ≡ false → (mid.is_refused ≡ false)
-      × ((one : UnitSums) × (facts_of one ≡ facts_of_chunk chunking chunk)
-      × (new.sums.items ≡ mid.sums.items ++ one ∷ [])))
+      × ((chunks : List Chunk) → AreOwed chunking chunks mid.sums.items mid.owing
+      → AreOwed chunking (chunks ++ chunk ∷ []) new.sums.items new.owing))
       → IsWorkerOf chunking feeder new
-  worker_more old mid new chunk is lane took sums refused same hashed = record {
+  worker_more old mid new chunk is lane took sums owing refused same hashed = record {
     taker = subst (IsTakerOf feeder) (sym same) (lane ∙ is.taker);
     sums = λ none.
         let more = hashed none in
-        let one = more.1.0 in
-        ap (map facts_of) (more.1.2 ∙ ap (λ s. s.items ++ one ∷ []) sums)
-        ∙ map-append facts_of old.sums.items (one ∷ [])
-        ∙ ap₂ (λ xs x. xs ++ x ∷ []) (is.sums (sym refused ∙ more.0)) more.1.1
-        ∙ sym (map-append (facts_of_chunk chunking) (taken_by old.taker) (chunk ∷ []))
-        ∙ ap (map (facts_of_chunk chunking)) (sym (ap taken_by same ∙ took));
+        let chunks = taken_by old.taker in
+        let was = is.sums (sym refused ∙ more.0) in
+        let all : chunks ++ chunk ∷ [] ≡ taken_by new.taker = sym (ap taken_by same ∙ took) in
+        subst (λ (taken : List Chunk). AreOwed chunking taken new.sums.items new.owing) all
+        (more.1 chunks (subst (λ s. AreOwed chunking chunks s.items mid.owing) (sym sums)
+        (subst (AreOwed chunking chunks old.sums.items) (sym owing) was)));
   }
 
   -- it is at its mark
   pub worker_done : (old new : StreamWorker) → IsWorkerOf chunking feeder old → TakesFromLaneOf old.taker new.taker
-      → IsAtMark new.taker → taken_by new.taker ≡ taken_by old.taker → new.sums ≡ old.sums
+      → IsAtMark new.taker → taken_by new.taker ≡ taken_by old.taker → new.sums ≡ old.sums → new.owing ≡ old.owing
       → new.is_refused ≡ old.is_refused → IsDoneOf chunking feeder new
-  worker_done old new is lane mark took sums refused = record {
+  worker_done old new is lane mark took sums owing refused = record {
     is = record {
       taker = lane ∙ is.taker;
       sums = λ none.
-          ap (λ s. map facts_of s.items) sums ∙ is.sums (sym refused ∙ none)
-          ∙ ap (map (facts_of_chunk chunking)) (sym took);
+          let was = is.sums (sym refused ∙ none) in
+          let chunks = taken_by old.taker in
+          subst (λ (taken : List Chunk). AreOwed chunking taken new.sums.items new.owing) (sym took)
+          (subst (λ s. AreOwed chunking chunks s.items new.owing) (sym sums)
+          (subst (AreOwed chunking chunks old.sums.items) (sym owing) was));
     };
     mark = mark;
   }

@@ -1,4 +1,5 @@
 pub mod ChunkNodes
 pub mod Cuts
 pub mod Fed
+pub mod OwedChunks
 pub mod StreamWorkers

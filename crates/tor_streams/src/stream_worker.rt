@@ -5,32 +5,35 @@ ghost use Rattle.std.specs.Thread.{IsSync};
 ghost use Rattle.tor_lane.specs.Lane.{IsTakerOf, taken_by};
 ghost use Rattle.tor_lane.specs.declared.feeder.Feeder.{Feeder};
 ghost use Rattle.tor_streams.specs.declared.chunking.Chunking.{Chunking};
-ghost use Rattle.tor_streams.specs.steps.Cuts.{IsChunking, facts_of, facts_of_chunk};
+ghost use Rattle.tor_streams.specs.steps.Cuts.{IsChunking};
 ghost use Rattle.tor_streams.specs.steps.StreamWorkers.{AreDone, AreParted, IsDoneOf, IsWorkerOf, TookAll};
 
-use crate::chunk_sums::sum_chunk;
 use crate::chunking::Chunking;
 use crate::gate::Gate;
+use crate::owed_chunks::{ChunkSums, settle_chunks};
 use crate::spares::GiveBack;
 use std::alloc::{AllocError, Global};
 use std::sync::Wait;
 use std::thread::{Threads, join_mut};
 use tor_lane::{Chunk, Taker};
-use tor_sums::{UnitSums, append};
+use tor_sums::{OwingPieces, UnitSums};
 
 /// A worker of a lane, and what it made of the chunks that it took.
 #[derive(Drop)]
 pub(crate) struct StreamWorker {
     taker: Taker,
     give_back: GiveBack,
-    sums: Vec<UnitSums>,
+    sums: Vec<ChunkSums>,
+    // The SHA-1s that are owed to these.
+    owing: Option<OwingPieces>,
     // Memory was refused: what it takes then is let go, so that the feeder does not wait for ever.
     is_refused: bool,
 }
 
 impl StreamWorker {
-    ghost use Rattle.std.specs.Prelude.{◌≡◌, ◌++◌, ◌∷◌, [], false, true};
-    ghost use Rattle.tor_sums.specs.declared.unit_sums.UnitSums.{UnitSums};
+    ghost use Rattle.std.specs.Prelude.{◌≡◌, ◌++◌, ◌∷◌, [], List, false, true};
+    ghost use Rattle.tor_lane.specs.declared.chunk.Chunk.{Chunk};
+    ghost use Rattle.tor_streams.specs.steps.OwedChunks.{AreOwed};
 
     // Takes chunks until its mark, and hashes them.
     fn take_all<G: Gate, R: Wait>(&mut self, rt: &R, gate: &G, alloc: Global, chunking: Chunking)
@@ -55,13 +58,13 @@ impl StreamWorker {
         requires { IsChunking chunking }
         ensures taker { self.new.taker ≡ self.old.taker }
         ensures sums { self.new.is_refused ≡ false → (self.old.is_refused ≡ false)
-            × ((one : UnitSums) × (facts_of one ≡ facts_of_chunk chunking chunk.now)
-            × (self.new.sums.items ≡ self.old.sums.items ++ one ∷ [])) }
+            × ((chunks : List Chunk) → AreOwed chunking chunks self.old.sums.items self.old.owing →
+            AreOwed chunking (chunks ++ chunk.now ∷ []) self.new.sums.items self.new.owing) }
     {
         if self.is_refused {
             return;
         }
-        if let Ok(sums) = sum_chunk(alloc, chunking, chunk) {
+        if let Ok(sums) = ChunkSums::of(alloc, chunking, chunk, &mut self.owing) {
             if let Ok(()) = self.sums.push(sums) {
                 return;
             }
@@ -88,6 +91,7 @@ pub(crate) fn stream_workers(
             taker,
             give_back,
             sums: Vec::new(alloc),
+            owing: None,
             is_refused: false,
         })?;
     }
@@ -133,11 +137,13 @@ pub(crate) fn any_refused(workers: &[StreamWorker]) -> bool
     workers.iter().any(|worker| worker.is_refused)
 }
 
-/// The takers of workers, and what all of them made of what these took; if memory was refused to a worker, it is here.
+/// The takers of workers, and what all of them made of what these took, once each chunk has the SHA-1s that are owed
+/// to it; if memory was refused to a worker, it is here.
 pub(crate) fn takers_and_sums(
     alloc: Global,
     workers: Vec<StreamWorker>,
 ) -> Result<(Vec<Taker>, Vec<UnitSums>), AllocError>
+    requires { (chunking : Chunking) × (feeder : Feeder) × AreDone chunking feeder workers.items }
     ensures { (chunking : Chunking) (feeder : Feeder) → AreDone chunking feeder workers.items →
         IfOk result (λ parts. AreParted chunking feeder parts.0.items parts.1.items) }
 {
@@ -147,13 +153,14 @@ pub(crate) fn takers_and_sums(
         let StreamWorker {
             taker,
             sums,
+            owing,
             is_refused,
             ..
         } = worker;
         if is_refused {
             return Err(AllocError);
         }
-        append(&mut all, sums)?;
+        settle_chunks(alloc, sums, owing, &mut all)?;
         takers.push(taker)?;
     }
     Ok((takers, all))

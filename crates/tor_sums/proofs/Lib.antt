@@ -6,6 +6,7 @@ pub mod FirstOf
 pub mod Levels
 pub mod NodesByUnit
 pub mod Numbers
+pub mod OwedPieces
 pub mod OwedSums
 pub mod PaidSums
 pub mod PartBytes

@@ -1,7 +1,7 @@
 -- Units that get the sums of their pieces.
 use Rattle.std.proofs.Common.{◌≡◌, ◌≤◌, ◌+◌, ℕ, List, [], ◌∷◌, ◌++◌, Result, Ok, Err, IfOk, drop, length, map, take}
 use Rattle.std.proofs.Common.{refl, ap, ap₂, sym, subst, ◌∙◌, append_assoc, append-nil, arith, length-append}
-use Rattle.std.proofs.Common.{◌<◌, get_or, set, sum_by, drop-drop}
+use Rattle.std.proofs.Common.{◌<◌, get_or, set, suc, sum_by, drop-drop}
 use Rattle.std.proofs.lemmas.List.{drop-set-lt, drop_at, drop_more, length-drop, take_at, take_more_set, with_items_is}
 use Rattle.std.proofs.lemmas.List.Sums.{sum_by-cons}
 use Rattle.std.specs.Vec.{with_items}
@@ -18,13 +18,13 @@ pub if_ok_more : {T E : Type 0} (result : Result T E) (P Q : T → Type 0) → (
 if_ok_more (Ok one) P Q more is = more one is
 if_ok_more (Err error) P Q more is = tt
 
-module _ {A : Type 0} (owes : PlanUnit → A → List ℕ → Type 0) where
+module _ {U A : Type 0} (owes : U → A → List ℕ → Type 0) where
   pub owe_none : OweEach owes [] [] []
   unfolding OweEach
   owe_none = refl
 
   -- one unit more
-  pub owe_next : (units : List PlanUnit) (sums : List A) (owed : List ℕ) (unit : PlanUnit) (one : A) (own : List ℕ)
+  pub owe_next : (units : List U) (sums : List A) (owed : List ℕ) (unit : U) (one : A) (own : List ℕ)
       → OweEach owes units sums owed → owes unit one own
       → OweEach owes (units ++ unit ∷ []) (sums ++ one ∷ []) (owed ++ own)
   unfolding OweEach
@@ -53,17 +53,22 @@ module _ {A : Type 0} (owed : A → ℕ) (paid : A → List ℕ → A) where
   unfolding paid_each
   paid_none sums = refl
 
+  pub paid_length : (items : List A) (sums : List ℕ) → length (paid_each owed paid items sums) ≡ length items
+  unfolding paid_each
+  paid_length [] sums = refl
+  paid_length (one ∷ items) sums = ap suc (paid_length items (drop (owed one) sums))
+
   -- ---- where each unit owes some
 
-  module _ (owes : PlanUnit → A → List ℕ → Type 0)
-      (fits : (unit : PlanUnit) (one : A) (own : List ℕ) → owes unit one own → owed one ≡ length own) where
+  module _ {U : Type 0} (owes : U → A → List ℕ → Type 0)
+      (fits : (unit : U) (one : A) (own : List ℕ) → owes unit one own → owed one ≡ length own) where
     front_is : (n : ℕ) (own rest all : List ℕ) → n ≡ length own → own ++ rest ≡ all → take n all ≡ own
     front_is n own rest all long is = ap (take n) (sym is) ∙ take_at own rest n (sym long)
 
     rest_is : (n : ℕ) (own rest all : List ℕ) → n ≡ length own → own ++ rest ≡ all → drop n all ≡ rest
     rest_is n own rest all long is = ap (drop n) (sym is) ∙ drop_at own rest n (sym long)
 
-    pub can_pay : (units : List PlanUnit) (items : List A) (sums : List ℕ) → OweEach owes units items sums
+    pub can_pay : (units : List U) (items : List A) (sums : List ℕ) → OweEach owes units items sums
         → sum_by owed items ≡ length sums
     unfolding OweEach
     can_pay [] [] sums each = sym (ap length each)
@@ -77,9 +82,9 @@ module _ {A : Type 0} (owed : A → ℕ) (paid : A → List ℕ → A) where
         sum_by-cons owed one items ∙ ap₂ (λ n m. n + m) own rest ∙ sym joined ∙ long
 
     -- each has its own
-    pub paid_up : (sums_up : PlanUnit → A → Type 0)
-        → ((unit : PlanUnit) (one : A) (own : List ℕ) → owes unit one own → sums_up unit (paid one own))
-        → (units : List PlanUnit) (items : List A) (sums : List ℕ) → OweEach owes units items sums
+    pub paid_up : (sums_up : U → A → Type 0)
+        → ((unit : U) (one : A) (own : List ℕ) → owes unit one own → sums_up unit (paid one own))
+        → (units : List U) (items : List A) (sums : List ℕ) → OweEach owes units items sums
         → SumUpEach sums_up units (paid_each owed paid items sums)
     unfolding OweEach SumUpEach paid_each
     paid_up sums_up settled [] [] sums each = tt

@@ -2,6 +2,7 @@ pub mod Each
 pub mod Given
 pub mod Hashes
 pub mod Owing
+pub mod OwingPieces
 pub mod Places
 pub mod ReadBytes
 pub mod Reads

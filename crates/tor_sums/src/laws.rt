@@ -1,5 +1,5 @@
 //! Laws over the limits.
-ghost use Rattle.std.specs.Prelude.{◌^◌, ◌≡◌};
+ghost use Rattle.std.specs.Prelude.{◌+◌, ◌^◌, ◌≡◌};
 ghost use Rattle.tor_sums.specs.declared.how.TheConstants.{MAX_WORKERS};
 ghost use Rattle.tor_sums.specs.declared.room.TheConstants.{BATCH, LEAST_ASKED, MOST_HELD};
 
@@ -13,5 +13,5 @@ pub fn limit_of_workers()
 pub fn limits_of_buffers()
     ensures asked { LEAST_ASKED ≡ 2 ^ 16 }
     ensures together { BATCH ≡ 2 ^ 20 }
-    ensures held { MOST_HELD ≡ 2 ^ 23 }
+    ensures held { MOST_HELD ≡ 2 ^ 23 + 2 ^ 16 }
 {}

@@ -8,7 +8,7 @@
 //! - [`UnitSums`] (`unit_sums.rt`): the hash, the part of the layer and the SHA-1s of a unit. [`sum_unit`] reads a unit
 //!   of a source and tells them. The sums of a unit's pieces may wait for those of the units after it: a worker owes
 //!   them ([`OwingSums`], `owing.rt`), and pays them when it has no more units ([`pay`],
-//!   [`Owed`], `paying.rt`).
+//!   [`Owed`], `paying.rt`). Those of units in memory wait in [`OwingPieces`] (`owing_pieces.rt`).
 //! - [`read_tree`] (`unit_hash.rt`) reads a unit and gives its tree, whatever files it is of. `reading.rt` has one
 //!   part read of the source ([`FileBytes`], `file_bytes.rt`), and [`WorkerSums`] (`worker.rt`) holds what was read and
 //!   not hashed (`room.rt`), and the hashes of what came before.
@@ -24,6 +24,7 @@ mod how;
 mod joined;
 pub mod laws;
 mod owing;
+mod owing_pieces;
 mod paying;
 mod places;
 mod reading;
@@ -40,6 +41,7 @@ pub use hasher::{ContentHasher, Hashed, feed_zeros};
 pub use how::{How, MAX_WORKERS};
 pub use joined::{append, pieces_of_units};
 pub use owing::OwingSums;
+pub use owing_pieces::OwingPieces;
 pub use paying::{Owed, pay};
 pub use places::put_in_order;
 pub use sums::{Sums, sums_of_units, sums_with};

@@ -8,7 +8,6 @@ use crate::worker::WorkerSums;
 use std::alloc::{AllocError, Global};
 use tor_plan::Plan;
 use tor_source::zeros;
-use tor_v1::MAX_PIECE_IN_RUN;
 use tor_v1::laws::length_of_sums;
 
 /// What the units of a worker hash to, and the sums of pieces that it owes them, in the order in which they were read.
@@ -72,14 +71,11 @@ impl OwingSums {
 }
 
 /// Whether the pieces of a unit of so many bytes and zeros go on with those of the next one: it ends at a piece's end.
-/// In version 1 pieces of exactly 1 MiB do not, of which a batch is all of a worker's room, and which may have been
-/// hashed before one was whole.
 fn goes_on(plan: &Plan, count: u64) -> bool
     requires { IsPlan plan.now }
     ensures { result ≡ true → count % plan.now.piece_length ≡ 0 }
 {
-    let (kind, piece_length) = (plan.kind(), plan.piece_length());
-    kind.has_v1() && (kind.has_v2() || piece_length < MAX_PIECE_IN_RUN) && count % piece_length == 0
+    plan.kind().has_v1() && count % plan.piece_length() == 0
 }
 
 /// Room for the sums of the pieces of a unit of so many bytes and zeros.

@@ -2,7 +2,7 @@
 ghost use Rattle.std.specs.Prelude.{◌≡◌, ◌⊎◌, ◌+◌, ◌*◌, ◌-◌, ◌%◌, ◌<◌, ◌≤◌, [], Some, false, true};
 ghost use Rattle.std.specs.Prelude.{◌++◌, IfErr, IfOk, List, MatchResult, drop, length, slice_index_or, take, vec_len};
 ghost use Rattle.std.specs.Prelude.{ℕ};
-ghost use Rattle.tor_plan.specs.PlanFacts.{IsPlan};
+ghost use Rattle.tor_plan.specs.PlanFacts.{IsPlanPieceLength};
 ghost use Rattle.tor_source.specs.Source.{SourceFacts, bytes_from};
 ghost use Rattle.tor_sums.specs.Fault.{byte_fault};
 ghost use Rattle.tor_sums.specs.declared.room.TheConstants.{BATCH, LEAST_ASKED, MOST_HELD};
@@ -15,8 +15,8 @@ ghost use Rattle.tor_v1.specs.declared.runs.TheConstants.{MAX_PIECE_IN_RUN};
 use crate::errors::EngineError;
 use crate::file_bytes::FileBytes;
 use std::alloc::{AllocError, Global};
-use tor_plan::Plan;
 use tor_source::zeros;
+use tor_tree::Kind;
 use tor_v1::MAX_PIECE_IN_RUN;
 
 /// If so many bytes are left, at least so many are asked for at a time.
@@ -26,7 +26,7 @@ const LEAST_ASKED: usize = 1 << 16;
 const BATCH: u64 = 1 << 20;
 
 /// A worker has room for at most so many bytes.
-const MOST_HELD: usize = 1 << 23;
+const MOST_HELD: usize = (1 << 23) + LEAST_ASKED;
 
 /// Bytes that were read one after the other, and room for more behind them. Clauses speak of those that are held as
 /// `held_in`.
@@ -47,16 +47,16 @@ pub(crate) struct Room {
 impl Room {
     ghost use Rattle.tor_sums.specs.steps.Room.{HasRoom, IsFull, ReadsMore, batch_of, count_in, held_in, length_of};
 
-    /// Room for the units of a plan. No byte is held.
-    pub(crate) fn new(alloc: Global, plan: &Plan) -> Result<Room, AllocError>
-        requires { IsPlan plan.now }
+    /// Room for pieces of so many bytes. No byte is held.
+    pub(crate) fn new(alloc: Global, kind: Kind, piece_length: u64) -> Result<Room, AllocError>
+        requires { IsPlanPieceLength kind piece_length }
         ensures held { IfOk result (λ room. held_in room ≡ []) }
         ensures none { IfOk result (λ room. count_in room ≡ 0) }
-        ensures eight { has_v1 plan.now.kind ≡ true → plan.now.piece_length ≤ MAX_PIECE_IN_RUN →
-            IfOk result (λ room. batch_of room % (8 * plan.now.piece_length) ≡ 0) }
+        ensures eight { has_v1 kind ≡ true → piece_length ≤ MAX_PIECE_IN_RUN →
+            IfOk result (λ room. batch_of room % (8 * piece_length) ≡ 0) }
     {
-        let batch = batch_length(plan);
-        let bytes = zeros(alloc, MOST_HELD.min(batch + LEAST_ASKED))?;
+        let batch = batch_length(kind, piece_length);
+        let bytes = zeros(alloc, batch + LEAST_ASKED)?;
         Ok(Room {
             bytes,
             held: 0,
@@ -160,6 +160,21 @@ impl Room {
         count
     }
 
+    /// Puts the first of these bytes behind those that are held, and answers how many.
+    pub(crate) fn put(&mut self, bytes: &[u8]) -> usize
+        requires some { 0 < length bytes.now }
+        requires room { HasRoom (length bytes.now) self.old }
+        ensures some { (0 < result) × (result ≤ length bytes.now) }
+        ensures count { count_in self.new ≡ count_in self.old + result }
+        ensures held { held_in self.new ≡ held_in self.old ++ take result bytes.now }
+    {
+        let count = self.asked(bytes.len() as u64);
+        let (first, _) = bytes.split_at(count);
+        copy_behind(self.held, first, &mut self.bytes);
+        self.held += count;
+        count
+    }
+
     // How many bytes are asked for where so many are left: up to a whole batch, and few only where few are left.
     fn asked(&self, left: u64) -> usize
         requires left { 0 < left }
@@ -182,15 +197,14 @@ impl Room {
 
 /// How many bytes are hashed together: about 1 MiB, and a multiple of eight pieces if version 1 has pieces that are
 /// hashed by eight.
-fn batch_length(plan: &Plan) -> usize
-    requires { IsPlan plan.now }
+fn batch_length(kind: Kind, piece_length: u64) -> usize
+    requires { IsPlanPieceLength kind piece_length }
     ensures least { BATCH ≤ result }
-    ensures most { result ≤ MOST_HELD }
-    ensures eight { has_v1 plan.now.kind ≡ true → plan.now.piece_length ≤ MAX_PIECE_IN_RUN →
-        result % (8 * plan.now.piece_length) ≡ 0 }
+    ensures most { result + LEAST_ASKED ≤ MOST_HELD }
+    ensures eight { has_v1 kind ≡ true → piece_length ≤ MAX_PIECE_IN_RUN → result % (8 * piece_length) ≡ 0 }
 {
-    let eight = 8 * plan.piece_length();
-    if !plan.kind().has_v1() || plan.piece_length() > MAX_PIECE_IN_RUN {
+    let eight = 8 * piece_length;
+    if !kind.has_v1() || piece_length > MAX_PIECE_IN_RUN {
         BATCH as usize
     } else if eight < BATCH {
         BATCH.next_multiple_of(eight) as usize
@@ -222,6 +236,18 @@ fn zeros_behind(held: usize, count: usize, bytes: &mut [u8])
     let (_, spare) = bytes.split_at_mut(held);
     let (buffer, _) = spare.split_at_mut(count);
     buffer.fill(0);
+}
+
+/// Copies bytes behind the first `held`.
+fn copy_behind(held: usize, first: &[u8], bytes: &mut [u8])
+    requires { held + length first.now ≤ length bytes.old }
+    ensures len { length bytes.new ≡ length bytes.old }
+    ensures front { take held bytes.new ≡ take held bytes.old }
+    ensures copied { take (length first.now) (drop held bytes.new) ≡ first.now }
+{
+    let (_, spare) = bytes.split_at_mut(held);
+    let (buffer, _) = spare.split_at_mut(first.len());
+    buffer.copy_from_slice(first);
 }
 
 /// Reads once, at most so many bytes, behind the first `held`.

@@ -1,9 +1,9 @@
 //! What the units of a worker hash to, while their bytes are read.
 ghost use Rattle.std.specs.Prelude.{◌≡◌, ◌+◌, ◌*◌, ◌-◌, ◌<◌, ◌≤◌, ◌++◌, [], ℕ, List, IfErr, IfOk, MatchResult, OnOk};
-ghost use Rattle.std.specs.Prelude.{length, max, slice_index_or, if◌then◌else◌};
+ghost use Rattle.std.specs.Prelude.{length, max, slice_index_or, take, if◌then◌else◌};
 ghost use Rattle.std.specs.Option.{ForSome};
 ghost use Rattle.tor_merkle.specs.declared.TheConstants.{MAX_LENGTH};
-ghost use Rattle.tor_plan.specs.PlanFacts.{IsPlan, PlanFacts};
+ghost use Rattle.tor_plan.specs.PlanFacts.{IsPlan, IsPlanPieceLength, PlanFacts};
 ghost use Rattle.tor_source.specs.Source.{SourceFacts, bytes_from};
 ghost use Rattle.tor_tree.specs.Kinds.{has_v1};
 ghost use Rattle.tor_v1.specs.Piece.{piece_sums, zeros};
@@ -20,6 +20,7 @@ use crate::room::Room;
 use std::alloc::{AllocError, Global};
 use tor_merkle::FedTree;
 use tor_plan::Plan;
+use tor_tree::Kind;
 
 /// What the units of a worker hash to, one after the other. Bytes are read into a buffer of its own, and wait there
 /// until many can be hashed together. Of each unit the tree is ended with it; its pieces go on with those of the next
@@ -49,12 +50,27 @@ impl WorkerSums {
         ensures fresh { IfOk result (IsFresh plan.now []) }
         ensures none { IfOk result (λ sums. count_in (room_of sums) ≡ 0) }
     {
-        let room = Room::new(alloc, plan)?;
+        let sums = WorkerSums::of_kind(alloc, plan.kind(), plan.piece_length())?;
+        Ok(sums)
+    }
+
+    /// Of no byte, of a kind and for pieces of so many bytes.
+    pub(crate) fn of_kind(
+        alloc: Global,
+        kind: Kind,
+        piece_length: u64,
+    ) -> Result<WorkerSums, AllocError>
+        requires { IsPlanPieceLength kind piece_length }
+        ensures taken { IfOk result (HasTaken kind piece_length [] []) }
+        ensures begun { IfOk result (λ sums. begun_of sums ≡ 0) }
+        ensures none { IfOk result (λ sums. count_in (room_of sums) ≡ 0) }
+    {
+        let room = Room::new(alloc, kind, piece_length)?;
         Ok(WorkerSums {
             room,
             treed: 0,
             begun: 0,
-            hasher: ContentHasher::new(alloc, plan.kind(), plan.piece_length()),
+            hasher: ContentHasher::new(alloc, kind, piece_length),
         })
     }
 
@@ -103,6 +119,22 @@ impl WorkerSums {
         'zeros: while left > 0 {
             let width = self.put_zeros(left)?;
             left -= width;
+        }
+        Ok(())
+    }
+
+    /// Adds bytes to the pieces alone.
+    pub(crate) fn feed_pieces(&mut self, bytes: &[u8]) -> Result<(), AllocError>
+        ensures { (kind : Kind) (piece_length : ℕ) (before unit : List ℕ) →
+            HasTaken kind piece_length before unit self.old →
+            OnOk result (HasTaken kind piece_length before (unit ++ bytes.now) self.new) }
+    {
+        self.feed_tree(self.held())?;
+        let mut left = bytes;
+        'parts: while !left.is_empty() {
+            let count = self.put(left)?;
+            let (_, later) = left.split_at(count);
+            left = later;
         }
         Ok(())
     }
@@ -191,6 +223,22 @@ impl WorkerSums {
         let count = self.room.put_zeros(left);
         self.treed = self.room.held();
         Ok(count as u64)
+    }
+
+    // Adds the first of these bytes to the pieces, and answers how many. The tree has all that waits.
+    fn put(&mut self, bytes: &[u8]) -> Result<usize, AllocError>
+        requires some { 0 < length bytes.now }
+        requires treed { treed_of self.old ≡ count_in (room_of self.old) }
+        ensures some { IfOk result (λ count. (0 < count) × (count ≤ length bytes.now)) }
+        ensures taken { (kind : Kind) (piece_length : ℕ) (before unit : List ℕ) →
+            HasTaken kind piece_length before unit self.old →
+            IfOk result (λ count. HasTaken kind piece_length before (unit ++ take count bytes.now) self.new) }
+        ensures treed { OnOk result (treed_of self.new ≡ count_in (room_of self.new)) }
+    {
+        self.make_room(bytes.len() as u64)?;
+        let count = self.room.put(bytes);
+        self.treed = self.room.held();
+        Ok(count)
     }
 
     // Hashes a batch where one is held, or where there is little room for the bytes that are left.

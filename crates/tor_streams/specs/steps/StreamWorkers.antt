@@ -8,12 +8,14 @@ use Rattle.tor_streams.specs.declared.chunking.Chunking.{Chunking}
 use Rattle.tor_streams.specs.declared.stream_worker.StreamWorker.{StreamWorker}
 use Rattle.tor_sums.specs.declared.unit_sums.UnitSums.{UnitSums}
 use Rattle.tor_streams.specs.steps.Cuts.{facts_of, facts_of_chunk}
+use Rattle.tor_streams.specs.steps.OwedChunks.{AreOwed}
 
--- a worker of the feeder's lane; where no memory was refused it has the sums of what it took, in that order
+-- a worker of the feeder's lane; where no memory was refused it has the sums of what it took, in that order, but for
+-- those that are owed
 pub record IsWorkerOf (chunking : Chunking) (feeder : Feeder) (worker : StreamWorker) : Type 0 where
   pub taker : IsTakerOf feeder worker.taker
   pub sums : worker.is_refused ≡ false
-      → map facts_of worker.sums.items ≡ map (facts_of_chunk chunking) (taken_by worker.taker)
+      → AreOwed chunking (taken_by worker.taker) worker.sums.items worker.owing
 
 -- it has taken its mark
 pub record IsDoneOf (chunking : Chunking) (feeder : Feeder) (worker : StreamWorker) : Type 0 where

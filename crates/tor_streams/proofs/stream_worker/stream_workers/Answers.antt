@@ -1,13 +1,15 @@
 -- one taker more
-use Rattle.std.proofs.Common.{◌≡◌, ◌++◌, ◌∷◌, [], length, map, arith, ap, sym, subst, ◌∙◌}
+use Rattle.std.proofs.Common.{◌≡◌, ◌++◌, ◌∷◌, [], None, List, length, arith, ap, sym, subst, ◌∙◌}
 use Rattle.std.proofs.Common.{append_assoc, append-nil, length-append}
 use Rattle.std.specs.List.{AllByRecursion}
 use Rattle.std.specs.Vec.Iter.{into_iter_items}
 use Rattle.std.proofs.lemmas.List.{nil_from_length}
 use Rattle.tor_lane.specs.Lane.{IsTakerOf, taken_by}
 use Rattle.tor_lane.specs.declared.taker.Taker.{Taker}
-use Rattle.tor_streams.specs.steps.Cuts.{facts_of, facts_of_chunk}
+use Rattle.tor_lane.specs.declared.chunk.Chunk.{Chunk}
+use Rattle.tor_streams.specs.steps.OwedChunks.{AreOwed}
 use Rattle.tor_streams.specs.steps.StreamWorkers.{IsWorkerOf}
+use Rattle.tor_streams.proofs.OwedChunks.{owed_none}
 use Rattle.tor_streams.proofs.StreamWorkers.{all_back, all_front, all_joined}
 use Rattle.tor_streams.proofs.stream_worker.stream_workers.Goals as goal
 
@@ -30,7 +32,9 @@ takers-preserved c =
           (before.each chunking feeder (all_front P c.takers.yielded (taker ∷ []) all)) (
             record {
               taker = one.0;
-              sums = λ _. ap (map facts_of) c.new.ensures.items ∙ ap (map (facts_of_chunk chunking)) (sym one.1);
+              sums = λ _.
+                  subst (λ (taken : List Chunk). AreOwed chunking taken c.new.result.items None) (sym one.1)
+                  (owed_none chunking c.new.result.items c.new.ensures.items);
             },
             tt,
           ));

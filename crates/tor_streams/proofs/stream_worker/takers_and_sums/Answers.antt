@@ -1,5 +1,5 @@
 -- one worker more
-use Rattle.std.proofs.Common.{◌≡◌, ◌++◌, ◌∷◌, [], length, map, arith, ap, ap₂, sym, subst, ◌∙◌}
+use Rattle.std.proofs.Common.{◌≡◌, ◌++◌, ◌∷◌, [], length, map, arith, ap, sym, subst, ◌∙◌}
 use Rattle.std.proofs.Common.{append_assoc, append-nil, length-append}
 use Rattle.std.specs.List.{AllByRecursion, flat_map}
 use Rattle.std.specs.Vec.Iter.{into_iter_items}
@@ -7,10 +7,21 @@ use Rattle.std.proofs.lemmas.Grind.{flat_map-append}
 use Rattle.std.proofs.lemmas.List.{map-append, nil_from_length}
 use Rattle.std.proofs.lemmas.List.Elements.{All-from_recursion}
 use Rattle.tor_lane.specs.Lane.{IsAtMark, IsTakerOf, taken_by}
-use Rattle.tor_streams.specs.steps.Cuts.{facts_of, facts_of_chunk}
+use Rattle.tor_streams.specs.steps.Cuts.{facts_of_chunk}
 use Rattle.tor_streams.specs.steps.StreamWorkers.{IsDoneOf}
 use Rattle.tor_streams.proofs.StreamWorkers.{all_back, all_front, all_joined}
 use Rattle.tor_streams.proofs.stream_worker.takers_and_sums.Goals as goal
+
+-- the worker is one of those that are done
+pub settle_chunks-requires : goal.settle_chunks-requires
+settle_chunks-requires c =
+    let given = c.requires in
+    let P = IsDoneOf given.0 given.1 in
+    let worker = c.in-Some.worker in
+    let yielded = c.workers.yielded in
+    let rest = ap (λ xs. yielded ++ xs) (sym c.in-Some.ensures.steps.0) ∙ c.workers.invariant.items in
+    let all = subst (λ ws. AllByRecursion P ws) (sym rest) given.2.each in
+    (given.0, taken_by worker.taker, (all_back P yielded (worker ∷ _) all).0.is.sums c.if-is_refused.false)
 
 pub workers-preserved : goal.workers-preserved
 workers-preserved c =
@@ -32,8 +43,8 @@ workers-preserved c =
             subst (λ ts. AllByRecursion (λ t. IsTakerOf feeder t × IsAtMark t) ts) (sym push)
                 (all_joined (λ t. IsTakerOf feeder t × IsAtMark t) takers (worker.taker ∷ []) rest.0
                 ((one.is.taker, one.mark), tt)),
-            ap (map facts_of) c.in_ok-append.ensures.joined ∙ map-append facts_of c.workers.all.items worker.sums.items
-                ∙ ap₂ (λ xs ys. xs ++ ys) rest.1 (one.is.sums c.if-is_refused.false)
+            c.in_ok-settle_chunks.ensures chunking (taken_by worker.taker) (one.is.sums c.if-is_refused.false)
+                ∙ ap (λ xs. xs ++ map F (taken_by worker.taker)) rest.1
                 ∙ sym (map-append F (flat_map taken_by takers) (taken_by worker.taker))
                 ∙ ap (map F) (ap (λ xs. flat_map taken_by takers ++ xs) (sym (append-nil (taken_by worker.taker)))
                 ∙ sym (flat_map-append taken_by takers (worker.taker ∷ [])) ∙ ap (flat_map taken_by) (sym push)),

@@ -13,7 +13,7 @@ chunks-preserved g c = (
       let mid : StreamWorker = record old { taker = c.take.new.self } in
       let new : StreamWorker = record c.add.new.self { give_back = c.give.new.self } in
       worker_more c.args.chunking feeder old mid new c.in-Some-take.chunk
-      (c.chunks.invariant.2 feeder is) c.take.ensures.lane c.in-Some-take.ensures.some refl refl c.add.ensures.taker
+      (c.chunks.invariant.2 feeder is) c.take.ensures.lane c.in-Some-take.ensures.some refl refl refl c.add.ensures.taker
       c.add.ensures.sums,
 )
 
@@ -23,4 +23,4 @@ returns-in-None-take g c = λ feeder is.
     let new : StreamWorker = record old { taker = c.take.new.self } in
     let none = c.in-None-take.ensures.none in
     worker_done c.args.chunking feeder old new (c.chunks.invariant.2 feeder is) c.take.ensures.lane
-    none.0 none.1 refl refl
+    none.0 none.1 refl refl refl
