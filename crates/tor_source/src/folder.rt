@@ -14,6 +14,7 @@ ghost use Rattle.tor_tree.specs.Path.{path_cmp};
 
 use crate::faults::ScanFault;
 use crate::lazy::LazyFile;
+use crate::listed::{ListedFile, ListedFiles, read_listed};
 use crate::places::{one_place, places_of};
 use crate::source::Source;
 use crate::walk::walk;
@@ -32,15 +33,19 @@ pub struct FolderSource<R: Files> {
     rt: R,
     /// Where the system has each file.
     places: Vec<String>,
+    /// What a listing told of each.
+    listed: ListedFiles,
 }
 
 impl<R: Files> Model for FolderSource<R> {
-    ghost use Rattle.std.specs.Prelude.{ℕ, List, map};
+    ghost use Rattle.std.specs.Prelude.{◌≡◌, ℕ, List, map, vec_len};
     ghost use Rattle.std.specs.String.{string_bytes};
 
     ghost Value = { List (List ℕ) };
 
     ghost view = { λ source. map string_bytes source.places.items };
+
+    ghost invariant = { λ source. vec_len source.listed.lengths ≡ vec_len source.places };
 }
 
 impl<R: Files + Clone + Drop> FolderSource<R> {
@@ -62,7 +67,15 @@ impl<R: Files + Clone + Drop> FolderSource<R> {
         }
         judge_folder(rt, place)?;
         let found = walk(rt, alloc, place)?;
-        Ok((FolderSource::of_places(rt, found.places)?, found.paths))
+        let source = FolderSource::of_listed(rt, found.places, found.listed)?;
+        Ok((source, found.paths))
+    }
+
+    /// How many bytes each file has, as the listing told; 0 of a file that was not listed.
+    pub fn lengths(&self) -> &[u64]
+        ensures { length result.now ≡ length self.now }
+    {
+        &self.listed.lengths
     }
 
     /// These files below the folder `place`, whether they are there or not. Below the empty place none is.
@@ -75,7 +88,7 @@ impl<R: Files + Clone + Drop> FolderSource<R> {
         ensures { IfOk result (λ source. source ≡ map (place_of place.now) files.items) }
     {
         let places = places_of(alloc, place, &files)?;
-        FolderSource::of_places(rt, places)
+        FolderSource::of_places(rt, alloc, places)
     }
 
     /// The one file `place`.
@@ -83,16 +96,30 @@ impl<R: Files + Clone + Drop> FolderSource<R> {
         ensures { IfOk result (λ source. source ≡ place.now ∷ []) }
     {
         let places = one_place(alloc, place)?;
-        FolderSource::of_places(rt, places)
+        FolderSource::of_places(rt, alloc, places)
     }
 
-    // The files at these places.
-    fn of_places(rt: &R, places: Vec<String>) -> Result<FolderSource<R>, AllocError>
+    // The files at these places, of which nothing was told.
+    fn of_places(rt: &R, alloc: Global, places: Vec<String>) -> Result<FolderSource<R>, AllocError>
+        ensures { IfOk result (λ source. source ≡ map string_bytes places.items) }
+    {
+        let listed = ListedFiles::untold(alloc, places.len())?;
+        FolderSource::of_listed(rt, places, listed)
+    }
+
+    // The files at these places, and what the listing told of them.
+    fn of_listed(
+        rt: &R,
+        places: Vec<String>,
+        listed: ListedFiles,
+    ) -> Result<FolderSource<R>, AllocError>
+        requires { vec_len listed.lengths ≡ vec_len places }
         ensures { IfOk result (λ source. source ≡ map string_bytes places.items) }
     {
         Ok(FolderSource {
             rt: rt.clone()?,
             places,
+            listed,
         })
     }
 
@@ -101,15 +128,19 @@ impl<R: Files + Clone + Drop> FolderSource<R> {
         ensures each { IfOk result (λ readers. readers.items ≡ self.now) }
         ensures count { IfOk result (λ readers. vec_len readers ≡ length self.now) }
     {
-        readers_of(&self.rt, alloc, &self.places)
+        readers_of(&self.rt, alloc, &self.places, &self.listed)
     }
 
-    /// Whether one of the files is the very one of which the system told this, perhaps under another name. A place with
-    /// nothing now has another file; of any other the system must tell.
+    /// Whether one of the files is the very one of which the system told this, perhaps under another name. A file that
+    /// was listed is the one that the listing told. Of others the system is asked: a place with nothing now has another
+    /// file, and of any other it must tell.
     pub fn has(&self, file: &Metadata) -> Result<bool, ScanFault>
         ensures { IfErr result (λ fault. (fault ≡ Memory) ⊎ (fault ≡ System)) }
     {
-        same_file::is_at_one_of(&self.rt, &self.places, file)
+        match self.listed.has(file) {
+            Some(has) => Ok(has),
+            None => same_file::is_at_one_of(&self.rt, &self.places, file),
+        }
     }
 
     /// How many files there are.
@@ -125,12 +156,14 @@ fn readers_of<R: Files + Clone + Drop>(
     rt: &R,
     alloc: Global,
     places: &[String],
+    listed: &ListedFiles,
 ) -> Result<Vec<LazyFile<R>>, AllocError>
     ensures { IfOk result (λ readers. readers.items ≡ map string_bytes places.now) }
 {
     let mut readers = Vec::with_capacity(alloc, places.len())?;
     'places: for place in places {
-        readers.push(reader_of(rt, alloc, place)?)?;
+        let listed = listed.get(readers.len());
+        readers.push(reader_of(rt, alloc, place, listed)?)?;
     }
     Ok(readers)
 }
@@ -140,11 +173,12 @@ fn reader_of<R: Files + Clone + Drop>(
     rt: &R,
     alloc: Global,
     place: &str,
+    listed: Option<ListedFile>,
 ) -> Result<LazyFile<R>, AllocError>
     ensures { IfOk result (λ reader. reader ≡ place.now) }
 {
     let place = String::from_str(alloc, place)?;
-    Ok(LazyFile::new(rt.clone()?, place))
+    Ok(LazyFile::new(rt.clone()?, place, listed))
 }
 
 // Whether a place may be scanned: a folder is there.
@@ -164,9 +198,12 @@ fn judge_folder<R: Files>(rt: &R, place: &str) -> Result<(), ScanFault> {
 /// list has faults, that any other is missing, and that no fault of a length says that nothing is there, since such a
 /// file is missing.
 ///
-/// Each call asks the system anew. What stands at a file's place and is no regular file is missing, as is a file
-/// whose place leads through a regular file; a symbolic link at a file's place is followed. Each read opens the file,
-/// reads once, and closes it.
+/// Each read opens the file, reads once, and closes it. A file that was listed, and had bytes, has the length that was
+/// told; each read of it asks what was opened, and gives nothing if that is another file by now, or has another length.
+/// Whether a file that was listed is empty is asked each time, since it is never read.
+///
+/// Of a file that was not listed each call asks the system anew. What stands at its place and is no regular file is
+/// missing, as is a file whose place leads through a regular file; a symbolic link at its place is followed.
 impl<R: Files + Sync> Source for FolderSource<R>
 where
     R::File: FileExt,
@@ -182,9 +219,12 @@ where
             (λ fault. (file < length self.now) × (is_absence (error_kind fault) ≡ false)) }
         ensures past { length self.now ≤ file → result ≡ Ok None }
     {
-        match self.places.get(file as usize) {
-            Some(place) => regular::length_at(&self.rt, place),
-            None => Ok(None),
+        let Some(place) = self.places.get(file as usize) else {
+            return Ok(None);
+        };
+        match self.listed.lengths.get(file as usize) {
+            Some(length) if 0 < *length => Ok(Some(*length)),
+            _ => regular::length_at(&self.rt, place),
         }
     }
 
@@ -193,9 +233,12 @@ where
         ensures gave { IfErr result (λ _. file < length self.now) }
         ensures past { length self.now ≤ file → result ≡ Ok 0 }
     {
-        match self.places.get(file as usize) {
-            Some(place) => regular::read_at(&self.rt, place, start, buffer),
-            None => Ok(0),
+        let Some(place) = self.places.get(file as usize) else {
+            return Ok(0);
+        };
+        match self.listed.get(file as usize) {
+            Some(listed) => read_listed(&self.rt, place, &listed, start, buffer),
+            None => regular::read_at(&self.rt, place, start, buffer),
         }
     }
 }

@@ -1,20 +1,26 @@
 //! Files of the system that are read once and in order.
-ghost use Rattle.std.specs.Prelude.{◌≡◌};
+ghost use Rattle.std.specs.Prelude.{◌≡◌, ◌≤◌, IfOk, length};
 ghost use Rattle.std.specs.Io.{ReadsAtMost};
 ghost use Rattle.std.specs.Io.KnownBytes.{ReadConsumes};
 ghost use Rattle.std.specs.String.{string_bytes};
 
+use crate::listed::{ListedFile, open_listed};
 use crate::regular;
 use std::io::{self, ErrorKind, Read};
 use std::marker::Model;
 use std::rt::Files;
 
 /// The file at a place, which is opened at its first read. It is given up at its end, from which on it gives no byte,
-/// and at a fault, after which each read is one. Contracts see its place.
+/// and at a fault, after which each read is one. If it was listed, that it is another file by now is a fault, and that
+/// it has more bytes or fewer. Contracts see its place.
 #[derive(Drop)]
 pub struct LazyFile<R: Files> {
     rt: R,
     place: String,
+    /// What a listing told of it, if one did.
+    listed: Option<ListedFile>,
+    /// How many bytes it gave.
+    given: u64,
     state: State<R::File>,
 }
 
@@ -37,12 +43,14 @@ impl<R: Files> Model for LazyFile<R> {
 
 impl<R: Files> LazyFile<R> {
     /// The file at this place, of which nothing was read.
-    pub(crate) fn new(rt: R, place: String) -> LazyFile<R>
+    pub(crate) fn new(rt: R, place: String, listed: Option<ListedFile>) -> LazyFile<R>
         ensures { result ≡ string_bytes place }
     {
         LazyFile {
             rt,
             place,
+            listed,
+            given: 0,
             state: State::Unopened,
         }
     }
@@ -51,17 +59,53 @@ impl<R: Files> LazyFile<R> {
     fn open(&mut self) -> io::Result<()> {
         if let State::Unopened = self.state {
             self.state = State::Failed;
-            self.state = State::Open(regular::open_at(&self.rt, &self.place)?);
+            self.state = State::Open(open_at(&self.rt, &self.place, &self.listed)?);
         }
         Ok(())
     }
+}
+
+// The file at a place, opened. One that was listed has to be as it was.
+fn open_at<R: Files>(rt: &R, place: &str, listed: &Option<ListedFile>) -> io::Result<R::File> {
+    let Some(listed) = listed else {
+        return regular::open_at(rt, place);
+    };
+    match open_listed(rt, place, listed)? {
+        Some(file) => Ok(file),
+        None => Err(changed()),
+    }
+}
+
+// One read of an open file, of which so many bytes were given before. As many as were listed have to come, if it was.
+fn read_on<F: Read>(
+    file: &mut F,
+    listed: &Option<ListedFile>,
+    given: &mut u64,
+    buf: &mut [u8],
+) -> io::Result<usize>
+    ensures { IfOk result (λ count. count ≤ length buf.old) }
+{
+    let count = file.read(buf)?;
+    let is_end = count == 0 && !buf.is_empty();
+    *given = given.saturating_add(count as u64);
+    match listed {
+        Some(listed) if listed.length < *given || is_end && *given < listed.length => Err(
+            changed(),
+        ),
+        _ => Ok(count),
+    }
+}
+
+// The file is not as it was listed.
+fn changed() -> io::Error {
+    io::Error::from(ErrorKind::InvalidData)
 }
 
 impl<R: Files> Read for LazyFile<R> {
     fn read(&mut self, buf: &mut [u8]) -> io::Result<usize> {
         self.open()?;
         let result = match &mut self.state {
-            State::Open(file) => file.read(buf),
+            State::Open(file) => read_on(file, &self.listed, &mut self.given, buf),
             State::AtEnd => return Ok(0),
             _ => return Err(io::Error::from(ErrorKind::Other)),
         };

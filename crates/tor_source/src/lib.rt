@@ -26,7 +26,8 @@
 //! - [`laws`] (`laws.rt`): laws over the sources in memory, and the limits of an input.
 //!
 //! `walk.rt` finds the files below a folder, `listing.rt` the names in one; `places.rt` joins places and names,
-//! `regular.rt` reads what stands at a place, and `same_file.rt` tells whether two places have one file.
+//! `regular.rt` reads what stands at a place, `listed.rt` a file that has to be as it was listed, and `same_file.rt` tells
+//! whether two places have one file.
 #![tactic(auto)]
 
 mod buffer;
@@ -38,6 +39,7 @@ mod input;
 mod intake;
 pub mod laws;
 mod lazy;
+mod listed;
 mod listing;
 mod memory;
 mod places;

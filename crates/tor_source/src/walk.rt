@@ -1,6 +1,6 @@
 //! The files below a folder, in the order of their paths.
 ghost use Rattle.std.specs.Prelude.{◌≡◌, ◌<◌, ◌≤◌, ◌∷◌, ◌++◌, ◌⊎◌, ◌≢◌, ℕ};
-ghost use Rattle.std.specs.Prelude.{List, [], IfErr, IfOk, IfSome, OnOk, length, map};
+ghost use Rattle.std.specs.Prelude.{◌+◌, List, [], IfErr, IfOk, IfSome, OnOk, length, map, vec_len};
 ghost use Rattle.std.specs.String.{string_bytes};
 ghost use Rattle.tor_source.specs.steps.Order.{HasAdded, HasFound, IsAhead, IsEntered, path_in};
 ghost use Rattle.tor_source.specs.Places.{without_slash};
@@ -8,6 +8,7 @@ ghost use Rattle.tor_source.specs.declared.faults.ScanFault.TheVariants.{Memory,
 ghost use Rattle.tor_tree.specs.declared.paths.TheConstants.{MAX_NAMES};
 
 use crate::faults::ScanFault;
+use crate::listed::{ListedFile, ListedFiles};
 use crate::listing::rising_names;
 use crate::places::{place_below, without_slash};
 use std::alloc::{AllocError, Global};
@@ -16,12 +17,13 @@ use std::rt::Files;
 use tor_tree::{FilePath, MAX_NAMES, Name, copy_names};
 
 /// Files that were found: the place of the folder, with no slash at its end, and for each file its path below the
-/// folder and where the system has it.
+/// folder, where the system has it, and what was told of it.
 #[derive(Drop)]
 pub(crate) struct FoundFiles {
     folder: String,
     pub(crate) paths: Vec<FilePath>,
     pub(crate) places: Vec<String>,
+    pub(crate) listed: ListedFiles,
 }
 
 /// A file or a folder that is still to be entered: how many names lead to it, and its own. The names are the first of
@@ -52,12 +54,14 @@ pub(crate) fn walk<R: Files>(rt: &R, alloc: Global, root: &str) -> Result<FoundF
 /// The place of a folder, below which nothing was found yet.
 fn none_found(alloc: Global, root: &str) -> Result<FoundFiles, AllocError>
     ensures folder { IfOk result (λ found. string_bytes found.folder ≡ without_slash root.now) }
-    ensures none { IfOk result (λ found. (found.paths.items ≡ []) × (found.places.items ≡ [])) }
+    ensures none { IfOk result (λ found.
+        (found.paths.items ≡ []) × (found.places.items ≡ []) × (vec_len found.listed.lengths ≡ 0)) }
 {
     Ok(FoundFiles {
         folder: String::from_str(alloc, without_slash(root))?,
         paths: Vec::new(alloc),
         places: Vec::new(alloc),
+        listed: ListedFiles::none(alloc),
     })
 }
 
@@ -95,7 +99,7 @@ fn enter<R: Files>(
         return add_names(alloc, rt.open_dir(&place)?, last, waiting);
     }
     if metadata.is_file() {
-        return add_file(alloc, place, last, found);
+        return add_file(alloc, place, ListedFile::of(&metadata), last, found);
     }
     Err(ScanFault::NotRegular)
 }
@@ -133,6 +137,7 @@ fn add_names<D: Read + Drop>(
 fn add_file(
     alloc: Global,
     place: String,
+    listed: ListedFile,
     names: &[Name],
     found: &mut FoundFiles,
 ) -> Result<(), ScanFault>
@@ -141,7 +146,8 @@ fn add_file(
         (found.new.paths.items ≡ found.old.paths.items ++ names.now ∷ [])
         × (map string_bytes found.new.places.items ≡ map string_bytes found.old.places.items ++ string_bytes place ∷ [])
         × (string_bytes found.new.folder ≡ string_bytes found.old.folder)
-        × (length names.now ≤ MAX_NAMES)) }
+        × (length names.now ≤ MAX_NAMES)
+        × (vec_len found.new.listed.lengths ≡ vec_len found.old.listed.lengths + 1)) }
     ensures refused { IfErr result
         (λ fault. ((fault ≡ TooDeep) × (MAX_NAMES < length names.now)) ⊎ (fault ≡ Memory)) }
 {
@@ -153,5 +159,6 @@ fn add_file(
     };
     found.paths.push(path)?;
     found.places.push(place)?;
+    found.listed.push(listed)?;
     Ok(())
 }

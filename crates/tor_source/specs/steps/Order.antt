@@ -1,5 +1,5 @@
 -- For the invariant of `walk` alone: the order in which the files below a folder are found.
-use Rattle.std.specs.Prelude.{◌≡◌, ◌≤◌, ◌<◌, ◌++◌, ◌∷◌, [], ℕ, List, length, map, take, drop}
+use Rattle.std.specs.Prelude.{◌≡◌, ◌≤◌, ◌<◌, ◌++◌, ◌∷◌, [], ℕ, List, length, map, take, drop, vec_len}
 use Rattle.std.specs.List.{All, AllPairs}
 use Rattle.std.specs.List.Sorted.{IsStrictlySortedBy}
 use Rattle.std.specs.String.{string_bytes}
@@ -18,8 +18,11 @@ pub record IsFound (place : List ℕ) (paths : List (List (List ℕ))) (places :
   pub short : All (λ path. length path ≤ MAX_NAMES) paths
   pub placed : places ≡ map (place_below place) paths
 
+-- and of each something was told
 abbrev pub HasFound : List ℕ → FoundFiles → Type 0
-HasFound place found = IsFound place found.paths.items (map string_bytes found.places.items)
+HasFound place found =
+    IsFound place found.paths.items (map string_bytes found.places.items)
+    × (vec_len found.listed.lengths ≡ length found.paths.items)
 
 -- each path comes before this one
 abbrev pub AreBefore : List (List ℕ) → List (List (List ℕ)) → Type 0

@@ -1,5 +1,6 @@
-use Rattle.std.proofs.Common.{◌≡◌, map}
+use Rattle.std.proofs.Common.{◌≡◌, ◌+◌, ap, map, sym, ◌∙◌}
 use Rattle.std.specs.String.{string_bytes}
+use Rattle.std.proofs.lemmas.List.{length_push}
 use Rattle.std.proofs.lemmas.Result.{on_ok_weaker}
 use Rattle.tor_source.specs.steps.Order.{IsEntered, path_in}
 use Rattle.tor_source.specs.Places.{place_below}
@@ -30,9 +31,12 @@ returns-then-is_file-clause-found g c =
     rw (← c.deref.ensures, ← c.deref-2.ensures.value) c.in_ok-place.ensures in
     on_ok_weaker c.add_file.result (λ added.
     let known = rw c.deref-then-is_file.ensures.value at added in
-    rw (known.0, known.1, known.2)
-    (found_push folder c.args.found.now.paths.items (map string_bytes c.args.found.now.places.items) path
-    (string_bytes c.in_ok-place.place) c.args.waiting.now.items c.requires.found entered known.3 place))
+    rw (known.0, known.1, known.2) (
+      found_push folder c.args.found.now.paths.items (map string_bytes c.args.found.now.places.items) path
+          (string_bytes c.in_ok-place.place) c.args.waiting.now.items c.requires.found.0 entered known.3 place,
+      known.4 ∙ ap (λ count. count + 1) c.requires.found.1
+          ∙ sym (length_push c.args.found.now.paths.items path),
+    ))
     c.add_file.ensures.added
 
 pub returns-then-is_file-clause-ahead : goal.returns-then-is_file-clause-ahead
