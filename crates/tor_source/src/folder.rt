@@ -23,6 +23,7 @@ use std::alloc::{AllocError, Global};
 use std::fs::Metadata;
 use std::io;
 use std::marker::Model;
+use std::os::fd::AsRawFd;
 use std::os::unix::fs::FileExt;
 use std::rt::Files;
 use tor_tree::FilePath;
@@ -57,6 +58,8 @@ impl<R: Files + Clone + Drop> FolderSource<R> {
         alloc: Global,
         place: &str,
     ) -> Result<(FolderSource<R>, Vec<FilePath>), ScanFault>
+    where
+        R::File: AsRawFd,
         ensures placed { IfOk result (λ found. found.0 ≡ map (place_of place.now) found.1.items) }
         ensures rising { IfOk result (λ found. IsStrictlySortedBy path_cmp found.1.items) }
         ensures short { IfOk result (λ found. All (λ names. length names ≤ MAX_NAMES) found.1.items) }

@@ -25,7 +25,8 @@
 //!   buffer filled from a reader, or the [`FillFault`]; [`zeros`] (`buffer.rt`): room to read into.
 //! - [`laws`] (`laws.rt`): laws over the sources in memory, and the limits of an input.
 //!
-//! `walk.rt` finds the files below a folder, `listing.rt` the names in one; `places.rt` joins places and names,
+//! `walk.rt` finds the files below a folder, `listing.rt` the names in one, and `open_folders.rt` holds folders open
+//! meanwhile; `places.rt` joins places and names,
 //! `regular.rt` reads what stands at a place, `listed.rt` a file that has to be as it was listed, and `same_file.rt` tells
 //! whether two places have one file.
 #![tactic(auto)]
@@ -42,6 +43,7 @@ mod lazy;
 mod listed;
 mod listing;
 mod memory;
+mod open_folders;
 mod places;
 mod regular;
 mod same_file;

@@ -10,9 +10,11 @@ ghost use Rattle.tor_tree.specs.declared.paths.TheConstants.{MAX_NAMES};
 use crate::faults::ScanFault;
 use crate::listed::{ListedFile, ListedFiles};
 use crate::listing::rising_names;
+use crate::open_folders::OpenFolders;
 use crate::places::{place_below, without_slash};
 use std::alloc::{AllocError, Global};
 use std::io::Read;
+use std::os::fd::AsRawFd;
 use std::rt::Files;
 use tor_tree::{FilePath, MAX_NAMES, Name, copy_names};
 
@@ -37,16 +39,28 @@ pub(crate) struct WaitingName {
 /// All files below a folder. A folder is listed whole, and its names are entered in the order of their bytes, each
 /// folder where it is met.
 pub(crate) fn walk<R: Files>(rt: &R, alloc: Global, root: &str) -> Result<FoundFiles, ScanFault>
+where
+    R::File: AsRawFd,
     ensures { IfOk result (HasFound (without_slash root.now)) }
 {
     let mut found = none_found(alloc, root)?;
     let mut last = Vec::new(alloc);
-    let mut waiting = names_at_top(rt, alloc, root)?;
+    let (mut open, top) = OpenFolders::at_top(rt, alloc, root)?;
+    let mut waiting = names_at_top(alloc, top)?;
     for _ in 0..u64::MAX {
         let Some(entry) = waiting.pop() else {
             return Ok(found);
         };
-        enter(rt, alloc, entry, &mut last, &mut waiting, &mut found)?;
+        open.leave(entry.depth);
+        enter(
+            rt,
+            alloc,
+            entry,
+            &mut open,
+            &mut last,
+            &mut waiting,
+            &mut found,
+        )?;
     }
     Err(ScanFault::System)
 }
@@ -66,13 +80,11 @@ fn none_found(alloc: Global, root: &str) -> Result<FoundFiles, AllocError>
 }
 
 /// The names in the folder itself, which wait.
-fn names_at_top<R: Files>(rt: &R, alloc: Global, root: &str) -> Result<Vec<WaitingName>, ScanFault>
+fn names_at_top<D: Read + Drop>(alloc: Global, top: D) -> Result<Vec<WaitingName>, ScanFault>
     ensures { IfOk result (λ waiting. IsAhead [] [] waiting.items) }
 {
     let mut waiting = Vec::new(alloc);
-    // A symbolic link is followed only at a place that ends in a slash.
-    let top = format!(in alloc; "{root}/")?;
-    add_names(alloc, rt.open_dir(&top)?, &[], &mut waiting)?;
+    add_names(alloc, top, &[], &mut waiting)?;
     Ok(waiting)
 }
 
@@ -82,10 +94,13 @@ fn enter<R: Files>(
     rt: &R,
     alloc: Global,
     entry: WaitingName,
+    open: &mut OpenFolders<R>,
     last: &mut Vec<Name>,
     waiting: &mut Vec<WaitingName>,
     found: &mut FoundFiles,
 ) -> Result<(), ScanFault>
+where
+    R::File: AsRawFd,
     requires found { HasFound (string_bytes found.old.folder) found.old }
     requires ahead { IsAhead found.old.paths.items last.old.items (waiting.old.items ++ entry ∷ []) }
     ensures found { OnOk result (HasFound (string_bytes found.new.folder) found.new) }
@@ -93,12 +108,14 @@ fn enter<R: Files>(
     ensures folder_stays { OnOk result (string_bytes found.new.folder ≡ string_bytes found.old.folder) }
 {
     step_to(alloc, entry, last)?;
-    let place = place_below(alloc, &found.folder, last)?;
-    let metadata = rt.symlink_metadata(&place)?;
+    let asked = open.place_of(alloc, last)?;
+    let metadata = rt.symlink_metadata(&asked)?;
     if metadata.is_dir() {
-        return add_names(alloc, rt.open_dir(&place)?, last, waiting);
+        let folder = open.enter(rt, alloc, &asked, &metadata)?;
+        return add_names(alloc, folder, last, waiting);
     }
     if metadata.is_file() {
+        let place = place_below(alloc, &found.folder, last)?;
         return add_file(alloc, place, ListedFile::of(&metadata), last, found);
     }
     Err(ScanFault::NotRegular)

@@ -2,7 +2,7 @@ use Rattle.std.proofs.Common.{◌≡◌, ◌+◌, ap, map, sym, ◌∙◌}
 use Rattle.std.specs.String.{string_bytes}
 use Rattle.std.proofs.lemmas.List.{length_push}
 use Rattle.std.proofs.lemmas.Result.{on_ok_weaker}
-use Rattle.tor_source.specs.steps.Order.{IsEntered, path_in}
+use Rattle.tor_source.specs.steps.Order.{IsEntered}
 use Rattle.tor_source.specs.Places.{place_below}
 use Rattle.tor_source.proofs.Entries.{ahead_file, entered_next}
 use Rattle.tor_source.proofs.FoundFiles.{found_push}
@@ -28,9 +28,9 @@ returns-then-is_file-clause-found g c =
     rw is (entered_next c.args.found.now.paths.items c.args.last.now.items c.args.waiting.now.items c.args.entry
     c.requires.ahead) in
     let place : string_bytes c.in_ok-place.place ≡ place_below folder path =
-    rw (← c.deref.ensures, ← c.deref-2.ensures.value) c.in_ok-place.ensures in
+    rw (← c.deref-then-is_file.ensures, ← c.deref-then-is_file-2.ensures.value) c.in_ok-place.ensures in
     on_ok_weaker c.add_file.result (λ added.
-    let known = rw c.deref-then-is_file.ensures.value at added in
+    let known = rw c.deref-then-is_file-3.ensures.value at added in
     rw (known.0, known.1, known.2) (
       found_push folder c.args.found.now.paths.items (map string_bytes c.args.found.now.places.items) path
           (string_bytes c.in_ok-place.place) c.args.waiting.now.items c.requires.found.0 entered known.3 place,
@@ -47,5 +47,5 @@ returns-then-is_file-clause-ahead g c =
     rw is (entered_next c.args.found.now.paths.items c.args.last.now.items c.args.waiting.now.items c.args.entry
     c.requires.ahead) in
     on_ok_weaker c.add_file.result
-    (λ added. rw (added.0, c.deref-then-is_file.ensures.value)
+    (λ added. rw (added.0, c.deref-then-is_file-3.ensures.value)
     (ahead_file c.args.found.now.paths.items path c.args.waiting.now.items entered)) c.add_file.ensures.added

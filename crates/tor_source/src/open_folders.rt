@@ -1,0 +1,147 @@
+//! The folders on the way to what is listed, held open. What is in one of them is asked for by its descriptor, so that
+//! no link that takes the place of a folder meanwhile leads out of it.
+ghost use Rattle.std.specs.Prelude.{◌≤◌, vec_len};
+
+use crate::faults::ScanFault;
+use crate::listed::FileNumber;
+use crate::places::{place_below, without_slash};
+use std::alloc::{AllocError, Global};
+use std::fs::{self, Metadata, OpenFile};
+use std::io::{self, ErrorKind};
+use std::os::fd::AsRawFd;
+use std::rt::Files;
+use tor_tree::{MAX_NAMES, Name};
+
+/// How many folders below the top one are held open. What is in a deeper one is no file that could be taken.
+const MAX_OPEN: usize = MAX_NAMES - 1;
+
+/// A folder, and the place from which what is in it is asked for.
+#[derive(Drop)]
+struct OpenFolder<F: Drop> {
+    /// What holds the folder open; None if its place is its own.
+    file: Option<F>,
+    place: String,
+}
+
+/// The folders that are held open; none where the system has no places for what is held open.
+#[derive(Drop)]
+pub(crate) struct OpenFolders<R: Files> {
+    /// Where the system has what this program holds open, by its number.
+    descriptors: Option<String>,
+    top: OpenFolder<R::File>,
+    /// Each in the one before, the first in the top one.
+    below: Vec<OpenFolder<R::File>>,
+}
+
+impl<R: Files> OpenFolders<R>
+where
+    R::File: AsRawFd,
+{
+    /// The top folder, and its names as the system lists them. A link at its place is followed.
+    pub(crate) fn at_top(
+        rt: &R,
+        alloc: Global,
+        root: &str,
+    ) -> Result<(OpenFolders<R>, R::Dir), ScanFault> {
+        let mut folders = OpenFolders::unheld(alloc, root)?;
+        if let Some(descriptors) = descriptors(rt, alloc)? {
+            let top = hold(alloc, &descriptors, fs::open(rt, root)?)?;
+            if is_there(rt, &top) {
+                folders.descriptors = Some(descriptors);
+                folders.top = top;
+            }
+        }
+        let names = names_in(rt, alloc, &folders.top.place)?;
+        Ok((folders, names))
+    }
+
+    // The top folder, whose place is its own.
+    fn unheld(alloc: Global, root: &str) -> Result<OpenFolders<R>, AllocError> {
+        let place = String::from_str(alloc, without_slash(root))?;
+        Ok(OpenFolders {
+            descriptors: None,
+            top: OpenFolder { file: None, place },
+            below: Vec::new(alloc),
+        })
+    }
+
+    /// Lets go of the folders that more than so many names lead to.
+    pub(crate) fn leave(&mut self, depth: usize)
+        ensures { vec_len self.new.below ≤ depth }
+    {
+        self.below.truncate(depth);
+    }
+
+    /// Where the system is asked for what these names lead to: in the last folder that is held open.
+    pub(crate) fn place_of(&self, alloc: Global, names: &[Name]) -> Result<String, AllocError> {
+        let folder = self.below.last().unwrap_or(&self.top);
+        let (_, names) = names.split_at(self.below.len().min(names.len()));
+        place_below(alloc, &folder.place, names)
+    }
+
+    /// Goes into the folder at a place that was asked for, and has to be the one of which this was told then; and its
+    /// names as the system lists them.
+    pub(crate) fn enter(
+        &mut self,
+        rt: &R,
+        alloc: Global,
+        place: &str,
+        told: &Metadata,
+    ) -> Result<R::Dir, ScanFault> {
+        let descriptors = match &self.descriptors {
+            Some(descriptors) if self.below.len() < MAX_OPEN => descriptors,
+            _ => return Ok(rt.open_dir(place)?),
+        };
+        // Behind a slash nothing but a folder is opened: to open a FIFO would wait.
+        let behind = format!(in alloc; "{place}/")?;
+        let file = fs::open(rt, &behind)?;
+        if !FileNumber::of(&file.metadata()?).is(FileNumber::of(told)) {
+            return Err(ScanFault::System);
+        }
+        let folder = hold(alloc, descriptors, file)?;
+        let names = names_in(rt, alloc, &folder.place)?;
+        self.below.push(folder)?;
+        Ok(names)
+    }
+}
+
+// The place of what this program holds open; None if the system has no such place.
+fn descriptors<R: Files>(rt: &R, alloc: Global) -> Result<Option<String>, ScanFault> {
+    match rt.read_link(alloc, "/proc/self") {
+        Ok(process) => Ok(Some(format!(in alloc; "/proc/{}/fd", process.display())?)),
+        Err(fault) if matches!(fault.kind(), ErrorKind::OutOfMemory) => Err(ScanFault::Memory),
+        Err(_) => Ok(None),
+    }
+}
+
+// A folder that was opened, whose place is that of what holds it open.
+fn hold<F: AsRawFd + Drop>(
+    alloc: Global,
+    descriptors: &str,
+    file: F,
+) -> Result<OpenFolder<F>, AllocError> {
+    let number = file.as_raw_fd();
+    let place = format!(in alloc; "{descriptors}/{number}")?;
+    Ok(OpenFolder {
+        file: Some(file),
+        place,
+    })
+}
+
+// Whether the system has a folder that is held open at its place.
+fn is_there<R: Files>(rt: &R, folder: &OpenFolder<R::File>) -> bool {
+    let Some(file) = &folder.file else {
+        return false;
+    };
+    match (file.metadata(), rt.metadata(&folder.place)) {
+        (Ok(opened), Ok(there)) => FileNumber::of(&opened).is(FileNumber::of(&there)),
+        _ => false,
+    }
+}
+
+// The names in a folder as the system lists them.
+fn names_in<R: Files>(rt: &R, alloc: Global, place: &str) -> Result<R::Dir, ScanFault> {
+    // A symbolic link, as one from a descriptor to its folder, is followed only at a place that ends in a slash.
+    let behind = format!(in alloc; "{place}/")?;
+    Ok(rt.open_dir(&behind)?)
+}
