@@ -1,10 +1,9 @@
 -- The names of a folder that were added to the entries, and those that are left.
-use Rattle.std.proofs.Common.{◌≡◌, ℕ, ◌≤◌, Option, Some, None, IfSome, Vec, Global, List, [], ◌∷◌, ◌++◌, length, map}
+use Rattle.std.proofs.Common.{◌≡◌, ℕ, ◌≤◌, Vec, Global, List, [], ◌∷◌, ◌++◌, length, map}
 use Rattle.std.proofs.Common.{take, drop, refl, sym, ap, ◌∙◌, arith, append-nil, append_assoc}
 use Rattle.std.specs.Prelude.{reverse, vec_items}
 use Rattle.std.proofs.lemmas.List.{drop-append-le, length_push, map_push, reverse-append, take-append-le, take_all}
 use Rattle.std.proofs.lemmas.List.Sorted.{Contains-permutation, IsPermutation-reverse, IsPermutation-sym}
-use Rattle.tor_source.specs.steps.Listing.{HasSameNames, names_in}
 use Rattle.tor_source.specs.declared.walk.WaitingName.{WaitingName}
 use Rattle.tor_source.specs.steps.Order.{HasAdded, name_of}
 
@@ -43,20 +42,17 @@ moved_more all left before after next h =
           (map vec_items left) (name_of next ∷ []) (reverse gone));
     }
 
-pub moved_all : (known : Option (List ℕ)) (all : List (Vec ℕ Global)) (before after : List WaitingName)
-    → IfSome known (λ listing. HasSameNames (names_in listing) (map vec_items all)) → IsMoved all [] before after
-    → IfSome known (λ listing. HasAdded listing before after)
-moved_all None all before after same h = tt
-moved_all (Some listing) all before after same h =
+pub moved_all : (all : List (Vec ℕ Global)) (before after : List WaitingName) → IsMoved all [] before after
+    → HasAdded (map vec_items all) before after
+moved_all all before after h =
     let gone : List (List ℕ) = map name_of (drop (length before) after) in
     let turned = IsPermutation-reverse gone in
     record {
       stay = h.stay;
       named = record {
         keeps = λ name there. Contains-permutation (reverse gone) gone name
-            (IsPermutation-sym gone (reverse gone) turned) (rw h.moved at (same.keeps name there));
-        adds_none = λ name there. same.adds_none name
-            (rw h.moved (Contains-permutation gone (reverse gone) name turned there));
+            (IsPermutation-sym gone (reverse gone) turned) (rw h.moved at there);
+        adds_none = λ name there. rw h.moved (Contains-permutation gone (reverse gone) name turned there);
       };
     }
 

@@ -26,6 +26,17 @@ same_paths last name deep [] within h = refl
 same_paths last name deep (entry ∷ entries) within h =
     rw (same_path last name deep entry within h.0, same_paths last name deep entries within h.1) refl
 
+same_above : (last : List (List ℕ)) (deep : ℕ) (entries : List WaitingName)
+    → AllByRecursion (λ entry. entry.depth ≤ deep) entries
+    → map (path_in (take deep last)) entries ≡ map (path_in last) entries
+same_above last deep [] h = refl
+same_above last deep (entry ∷ entries) h =
+    rw (take-take entry.depth deep last h.0, same_above last deep entries h.1) refl
+
+All-last : {X : Type 0} (P : X → Type 0) (xs : List X) (y : X) → All P (xs ++ y ∷ []) → P y
+All-last P xs y all =
+    rw (get_or_push xs y y (length xs) refl) at (all (length xs) y (omega (arith, length_push xs y)))
+
 module _ (entries : List WaitingName) (next : WaitingName) where
   nested_rest : AreNested (entries ++ next ∷ []) → AreNested entries
   nested_rest h i j d lt within =
@@ -75,10 +86,23 @@ entered_next found last entries next h =
       nested = nested_rest entries next h.nested;
       within = λ k d lt. let low : (get_or entries k d).depth ≤ next.depth = shallow k d lt in omega arith;
     }
-  where
-    All-last : {X : Type 0} (P : X → Type 0) (xs : List X) (y : X) → All P (xs ++ y ∷ []) → P y
-    All-last P xs y all =
-        rw (get_or_push xs y y (length xs) refl) at (all (length xs) y (omega (arith, length_push xs y)))
+
+-- it has no name that could be entered
+pub ahead_unnamed : (found : List (List (List ℕ))) (last : List (List ℕ)) (entries : List WaitingName)
+    → (next : WaitingName) → IsAhead found last (entries ++ next ∷ [])
+    → IsAhead found (take next.depth last) entries
+ahead_unnamed found last entries next h =
+    let shallow = nested_next entries next h.nested in
+    let every : next.depth ≤ length last = All-last (λ entry. entry.depth ≤ length last) entries next h.within in
+    let long : length (take next.depth last) ≡ next.depth = length-take-le next.depth last every in
+    let same = same_above last next.depth entries
+    (recursion_from_All (λ entry. entry.depth ≤ next.depth) entries shallow) in
+    record {
+      paths = rw same (waiting_rest found (map (path_in last) entries) (path_in last next)
+          (rw (map_push (path_in last) entries next) at h.paths));
+      nested = nested_rest entries next h.nested;
+      within = λ k d lt. let low : (get_or entries k d).depth ≤ next.depth = shallow k d lt in omega arith;
+    }
 
 -- it was a file
 pub ahead_file : (found : List (List (List ℕ))) (path : List (List ℕ)) (entries : List WaitingName)

@@ -1,13 +1,16 @@
 -- The files that were found: what a step of the walk keeps of them.
-use Rattle.std.proofs.Common.{◌≡◌, ℕ, ◌≤◌, List, [], ◌∷◌, ◌++◌, length, map, Ordering, Less, refl}
+use Rattle.std.proofs.Common.{◌≡◌, ℕ, ◌≤◌, List, [], ◌∷◌, ◌++◌, length, map, Ordering, Less, refl, sym}
 use Rattle.std.specs.List.{AllByRecursion}
 use Rattle.std.specs.List.Sorted.{IsStrictlySortedBy}
-use Rattle.std.proofs.lemmas.List.{map_push}
+use Rattle.std.proofs.lemmas.List.{length_push, map_push}
 use Rattle.std.proofs.lemmas.List.Elements.{All-nil, All-push, recursion_from_All}
 use Rattle.tor_tree.specs.Path.{path_cmp}
 use Rattle.tor_source.proofs.Waiting.{next_before}
 use Rattle.tor_source.specs.Places.{place_below}
-use Rattle.tor_source.specs.steps.Order.{IsEntered, IsFound, path_in}
+use Rattle.tor_source.specs.steps.Order.{HasFound, HasRefused, HasTaken, IsEntered, IsFound, path_in}
+use Rattle.std.specs.String.{string_bytes}
+use Rattle.tor_source.specs.declared.found.FoundFiles.{FoundFiles}
+use Rattle.tor_source.specs.declared.refused.Refusal.{Refusal}
 use Rattle.tor_source.specs.declared.walk.WaitingName.{WaitingName}
 use Rattle.tor_tree.specs.declared.paths.TheConstants.{MAX_NAMES}
 
@@ -55,3 +58,22 @@ found_none place = record {
   short = All-nil (λ path. length path ≤ MAX_NAMES);
   placed = refl;
 }
+
+-- a file was added
+pub has_taken : (old new : FoundFiles) (names : List (List ℕ)) (entries : List WaitingName) → HasTaken old names new
+    → HasFound (string_bytes old.folder) old → IsEntered old.paths.items names entries → length names ≤ MAX_NAMES
+    → HasFound (string_bytes new.folder) new
+has_taken old new names entries taken found entered short = (
+  rw (taken.folder, taken.path, taken.place)
+      (found_push (string_bytes old.folder) old.paths.items (map string_bytes old.places.items) names
+      (place_below (string_bytes old.folder) names) entries found.0 entered short refl),
+  rw (taken.path, taken.told, found.1) (sym (length_push old.paths.items names)),
+)
+
+-- something was refused
+pub has_refused : (old new : FoundFiles) (path : List ℕ) (refusal : Refusal) → HasRefused old path refusal new
+    → HasFound (string_bytes old.folder) old → HasFound (string_bytes new.folder) new
+has_refused old new path refusal refused found = (
+  rw (refused.folder, refused.paths, refused.places) found.0,
+  rw (refused.told, refused.paths) found.1,
+)

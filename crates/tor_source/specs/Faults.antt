@@ -4,14 +4,23 @@ use Rattle.std.specs.Prelude.{Bool, true, false}
 use Rattle.std.specs.declared.io.ErrorKind.{ErrorKind}
 use Rattle.std.specs.declared.io.ErrorKind.TheVariants.{NotADirectory, NotFound, OutOfMemory}
 use Rattle.tor_tree.specs.declared.names.NameError.{NameError}
-use Rattle.tor_tree.specs.declared.names.NameError.TheVariants.{NotUtf8, Memory}
+use Rattle.tor_tree.specs.declared.names.NameError.TheVariants as names
 use Rattle.tor_source.specs.declared.faults.ScanFault.{ScanFault}
 use Rattle.tor_source.specs.declared.faults.ScanFault.TheVariants as faults
+use Rattle.tor_source.specs.declared.refused.Refusal.{Refusal}
+use Rattle.tor_source.specs.declared.refused.Refusal.TheVariants.{NotRegular, NotUtf8, TooDeep}
 
 abbrev pub fault_of_name : NameError → ScanFault
-fault_of_name NotUtf8 = faults.NotUtf8
-fault_of_name Memory = faults.Memory
+fault_of_name names.NotUtf8 = faults.NotUtf8
+fault_of_name names.Memory = faults.Memory
 fault_of_name _ = faults.System
+
+-- the fault of a scan that meets a refusal
+abbrev pub fault_of_refusal : Refusal → ScanFault
+fault_of_refusal NotUtf8 = faults.NotUtf8
+fault_of_refusal (NotRegular _) = faults.NotRegular
+fault_of_refusal TooDeep = faults.TooDeep
+fault_of_refusal _ = faults.System
 
 abbrev pub fault_of_kind : ErrorKind → ScanFault
 fault_of_kind OutOfMemory = faults.Memory

@@ -1,5 +1,5 @@
 -- Where the system has the files below a folder: places and names are lists of bytes.
-use Rattle.std.specs.Prelude.{ℕ, ◌==◌, ◌-◌, ◌++◌, ◌∷◌, [], List, length, take, slice_index, if◌then◌else◌}
+use Rattle.std.specs.Prelude.{ℕ, ◌==◌, ◌-◌, ◌++◌, ◌∷◌, [], List, length, take, slice_index, slice_index_or, if◌then◌else◌}
 use Rattle.std.specs.List.{flat_map}
 use Rattle.tor_tree.specs.Name.{slash}
 
@@ -15,3 +15,11 @@ place_below place names = place ++ flat_map (λ name. slash ∷ name) names
 -- to; the empty place is no folder, and has them at the empty place, where nothing ever is (profile)
 abbrev pub place_of : List ℕ → List (List ℕ) → List ℕ
 place_of folder names = if length folder == 0 then [] else place_below (without_slash folder) names
+
+-- the bytes of a path: the names above, each with a slash behind it, and a name
+abbrev pub path_bytes : List (List ℕ) → List ℕ → List ℕ
+path_bytes above name = flat_map (λ folder. folder ++ slash ∷ []) above ++ name
+
+-- the bytes of a path with these names
+abbrev pub names_bytes : List (List ℕ) → List ℕ
+names_bytes names = path_bytes (take (length names - 1) names) (slice_index_or names (length names - 1) [])

@@ -16,6 +16,7 @@ use crate::faults::ScanFault;
 use crate::lazy::LazyFile;
 use crate::listed::{ListedFile, ListedFiles, read_listed};
 use crate::places::{one_place, places_of};
+use crate::refused::Refused;
 use crate::source::Source;
 use crate::walk::walk;
 use crate::{regular, same_file};
@@ -36,6 +37,14 @@ pub struct FolderSource<R: Files> {
     places: Vec<String>,
     /// What a listing told of each.
     listed: ListedFiles,
+}
+
+/// What a folder has: the files that can be taken, with their paths, and what is refused.
+#[derive(Drop)]
+pub struct Survey<R: Files> {
+    pub source: FolderSource<R>,
+    pub paths: Vec<FilePath>,
+    pub refused: Vec<Refused>,
 }
 
 impl<R: Files> Model for FolderSource<R> {
@@ -65,13 +74,32 @@ impl<R: Files + Clone + Drop> FolderSource<R> {
         ensures short { IfOk result (λ found. All (λ names. length names ≤ MAX_NAMES) found.1.items) }
         ensures nowhere { place.now ≡ [] → result ≡ Err System }
     {
+        let survey = FolderSource::survey(rt, alloc, place)?;
+        match survey.refused.first() {
+            Some(first) => Err(first.refusal.fault()),
+            None => Ok((survey.source, survey.paths)),
+        }
+    }
+
+    /// As `scan`, but what would be its fault is passed over: the files that can be taken, and all that is refused in
+    /// their folders, in the order in which it is met. Nothing is refused exactly if a scan would have no fault.
+    pub fn survey(rt: &R, alloc: Global, place: &str) -> Result<Survey<R>, ScanFault>
+    where
+        R::File: AsRawFd,
+        ensures placed { IfOk result (λ survey. survey.source ≡ map (place_of place.now) survey.paths.items) }
+        ensures rising { IfOk result (λ survey. IsStrictlySortedBy path_cmp survey.paths.items) }
+        ensures short { IfOk result (λ survey. All (λ names. length names ≤ MAX_NAMES) survey.paths.items) }
+        ensures nowhere { place.now ≡ [] → result ≡ Err System }
+    {
         if place.is_empty() {
             return Err(ScanFault::System);
         }
-        judge_folder(rt, place)?;
         let found = walk(rt, alloc, place)?;
-        let source = FolderSource::of_listed(rt, found.places, found.listed)?;
-        Ok((source, found.paths))
+        Ok(Survey {
+            source: FolderSource::of_listed(rt, found.places, found.listed)?,
+            paths: found.paths,
+            refused: found.refused,
+        })
     }
 
     /// How many bytes each file has, as the listing told; 0 of a file that was not listed.
@@ -182,18 +210,6 @@ fn reader_of<R: Files + Clone + Drop>(
 {
     let place = String::from_str(alloc, place)?;
     Ok(LazyFile::new(rt.clone()?, place, listed))
-}
-
-// Whether a place may be scanned: a folder is there.
-fn judge_folder<R: Files>(rt: &R, place: &str) -> Result<(), ScanFault> {
-    let metadata = rt.metadata(place)?;
-    if metadata.is_file() {
-        return Err(ScanFault::System);
-    }
-    if !metadata.is_dir() {
-        return Err(ScanFault::NotRegular);
-    }
-    Ok(())
 }
 
 /// No contract can say what a file of the system holds, nor that it stays as it is: so this source is steady for no

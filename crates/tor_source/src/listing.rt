@@ -4,18 +4,14 @@ ghost use Rattle.std.specs.List.Sorted.{IsStrictlySortedBy};
 ghost use Rattle.tor_source.specs.steps.Listing.{HasSameNames, is_listed, names_in};
 ghost use Rattle.tor_tree.specs.Path.{name_cmp};
 
-use crate::faults::ScanFault;
 use std::alloc::Global;
-use std::io::{BufRead, BufReader, Read};
+use std::io::{self, BufRead, BufReader, Read};
 
 /// How many bytes of a folder's names are read at once. A read of a folder needs room for one whole name at least.
 const BUFFER_LENGTH: usize = 32768;
 
 /// The names in a folder but `.` and `..`, each once, rising by their bytes.
-pub(crate) fn rising_names<D: Read + Drop>(
-    alloc: Global,
-    folder: D,
-) -> Result<Vec<Vec<u8>>, ScanFault>
+pub(crate) fn rising_names<D: Read + Drop>(alloc: Global, folder: D) -> io::Result<Vec<Vec<u8>>>
     ensures rising { IfOk result
         (λ names. IsStrictlySortedBy (λ name next. name_cmp name.items next.items) names.items) }
     ensures all { IfSome (D.remaining folder)
@@ -31,7 +27,7 @@ pub(crate) fn rising_names<D: Read + Drop>(
 }
 
 /// The names in a folder but `.` and `..`, as the system lists them.
-fn names_of<B: BufRead + Drop>(alloc: Global, folder: B) -> Result<Vec<Vec<u8>>, ScanFault>
+fn names_of<B: BufRead + Drop>(alloc: Global, folder: B) -> io::Result<Vec<Vec<u8>>>
     ensures { IfSome (B.remaining folder)
         (λ listing. IfOk result (λ names. map vec_items names.items ≡ names_in listing)) }
 {

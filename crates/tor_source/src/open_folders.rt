@@ -37,22 +37,24 @@ impl<R: Files> OpenFolders<R>
 where
     R::File: AsRawFd,
 {
-    /// The top folder, and its names as the system lists them. A link at its place is followed.
-    pub(crate) fn at_top(
-        rt: &R,
-        alloc: Global,
-        root: &str,
-    ) -> Result<(OpenFolders<R>, R::Dir), ScanFault> {
+    /// The top folder at a place, where a link is followed.
+    pub(crate) fn at_top(rt: &R, alloc: Global, root: &str) -> Result<OpenFolders<R>, ScanFault> {
+        judge_folder(rt, root)?;
         let mut folders = OpenFolders::unheld(alloc, root)?;
         if let Some(descriptors) = descriptors(rt, alloc)? {
-            let top = hold(alloc, &descriptors, fs::open(rt, root)?)?;
+            let file = open_folder(rt, alloc, &folders.top.place)?;
+            let top = hold(alloc, &descriptors, file)?;
             if is_there(rt, &top) {
                 folders.descriptors = Some(descriptors);
                 folders.top = top;
             }
         }
-        let names = names_in(rt, alloc, &folders.top.place)?;
-        Ok((folders, names))
+        Ok(folders)
+    }
+
+    /// The names in the top folder, as the system lists them.
+    pub(crate) fn top_names(&self, rt: &R, alloc: Global) -> io::Result<R::Dir> {
+        names_in(rt, alloc, &self.top.place)
     }
 
     // The top folder, whose place is its own.
@@ -87,22 +89,51 @@ where
         alloc: Global,
         place: &str,
         told: &Metadata,
-    ) -> Result<R::Dir, ScanFault> {
+    ) -> io::Result<R::Dir> {
+        self.go_into(rt, alloc, place, told)?;
+        match self.below.last() {
+            Some(folder) if self.descriptors.is_some() => names_in(rt, alloc, &folder.place),
+            _ => rt.open_dir(place),
+        }
+    }
+
+    /// Holds the folder at a place open, in the last one that is, if it is not deeper than a file may be.
+    pub(crate) fn go_into(
+        &mut self,
+        rt: &R,
+        alloc: Global,
+        place: &str,
+        told: &Metadata,
+    ) -> io::Result<()> {
         let descriptors = match &self.descriptors {
             Some(descriptors) if self.below.len() < MAX_OPEN => descriptors,
-            _ => return Ok(rt.open_dir(place)?),
+            _ => return Ok(()),
         };
-        // Behind a slash nothing but a folder is opened: to open a FIFO would wait.
-        let behind = format!(in alloc; "{place}/")?;
-        let file = fs::open(rt, &behind)?;
+        let file = open_folder(rt, alloc, place)?;
         if !FileNumber::of(&file.metadata()?).is(FileNumber::of(told)) {
-            return Err(ScanFault::System);
+            return Err(io::Error::from(ErrorKind::Other));
         }
-        let folder = hold(alloc, descriptors, file)?;
-        let names = names_in(rt, alloc, &folder.place)?;
-        self.below.push(folder)?;
-        Ok(names)
+        self.below.push(hold(alloc, descriptors, file)?)?;
+        Ok(())
     }
+}
+
+// Whether a place may be scanned: a folder is there.
+fn judge_folder<R: Files>(rt: &R, place: &str) -> Result<(), ScanFault> {
+    let metadata = rt.metadata(place)?;
+    if metadata.is_file() {
+        return Err(ScanFault::System);
+    }
+    if !metadata.is_dir() {
+        return Err(ScanFault::NotRegular);
+    }
+    Ok(())
+}
+
+// The folder at a place, opened. Behind a slash nothing else is: to open a FIFO would wait.
+fn open_folder<R: Files>(rt: &R, alloc: Global, place: &str) -> io::Result<R::File> {
+    let behind = format!(in alloc; "{place}/")?;
+    fs::open(rt, &behind)
 }
 
 // The place of what this program holds open; None if the system has no such place.
@@ -140,8 +171,8 @@ fn is_there<R: Files>(rt: &R, folder: &OpenFolder<R::File>) -> bool {
 }
 
 // The names in a folder as the system lists them.
-fn names_in<R: Files>(rt: &R, alloc: Global, place: &str) -> Result<R::Dir, ScanFault> {
+fn names_in<R: Files>(rt: &R, alloc: Global, place: &str) -> io::Result<R::Dir> {
     // A symbolic link, as one from a descriptor to its folder, is followed only at a place that ends in a slash.
     let behind = format!(in alloc; "{place}/")?;
-    Ok(rt.open_dir(&behind)?)
+    rt.open_dir(&behind)
 }

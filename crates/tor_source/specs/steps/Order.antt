@@ -1,14 +1,18 @@
 -- For the invariant of `walk` alone: the order in which the files below a folder are found.
-use Rattle.std.specs.Prelude.{◌≡◌, ◌≤◌, ◌<◌, ◌++◌, ◌∷◌, [], ℕ, List, length, map, take, drop, vec_len}
+use Rattle.std.specs.Prelude.{◌≡◌, ◌≤◌, ◌<◌, ◌+◌, ◌++◌, ◌∷◌, [], ℕ, List, length, map, take, drop, vec_len}
 use Rattle.std.specs.List.{All, AllPairs}
 use Rattle.std.specs.List.Sorted.{IsStrictlySortedBy}
 use Rattle.std.specs.String.{string_bytes}
 use Rattle.std.specs.declared.cmp.Ordering.TheVariants.{Less}
-use Rattle.tor_tree.specs.Path.{path_cmp}
-use Rattle.tor_source.specs.steps.Listing.{HasSameNames, names_in}
+use Rattle.tor_tree.specs.Path.{name_cmp, path_cmp}
+use Rattle.tor_source.specs.steps.Listing.{HasSameNames}
 use Rattle.tor_source.specs.Places.{place_below}
 use Rattle.tor_source.specs.declared.walk.WaitingName.{WaitingName}
-use Rattle.tor_source.specs.declared.walk.FoundFiles.{FoundFiles}
+use Rattle.tor_source.specs.declared.found.FoundFiles.{FoundFiles}
+use Rattle.tor_source.specs.declared.refused.Refusal.{Refusal}
+use Rattle.tor_source.specs.declared.refused.Refused.{Refused}
+use Rattle.tor_source.specs.declared.walk.Standing.{Standing}
+use Rattle.tor_source.specs.declared.walk.Standing.TheVariants.{File, Folder, NotTaken}
 use Rattle.tor_tree.specs.declared.paths.TheConstants.{MAX_NAMES}
 
 -- files that were found below a place: their paths strictly rise and have at most 64 names, and each is where its
@@ -23,6 +27,32 @@ abbrev pub HasFound : List ℕ → FoundFiles → Type 0
 HasFound place found =
     IsFound place found.paths.items (map string_bytes found.places.items)
     × (vec_len found.listed.lengths ≡ length found.paths.items)
+
+-- the file that these names lead to was added
+pub record HasTaken (old : FoundFiles) (names : List (List ℕ)) (new : FoundFiles) : Type 0 where
+  pub path : new.paths.items ≡ old.paths.items ++ names ∷ []
+  pub place : map string_bytes new.places.items
+      ≡ map string_bytes old.places.items ++ place_below (string_bytes old.folder) names ∷ []
+  pub told : vec_len new.listed.lengths ≡ vec_len old.listed.lengths + 1
+  pub folder : string_bytes new.folder ≡ string_bytes old.folder
+  pub refused : new.refused.items ≡ old.refused.items
+
+abbrev pub told_of : Refused → List ℕ × Refusal
+told_of one = (one.path.items, one.refusal)
+
+-- something was refused, whose path has these bytes
+pub record HasRefused (old : FoundFiles) (path : List ℕ) (refusal : Refusal) (new : FoundFiles) : Type 0 where
+  pub paths : new.paths.items ≡ old.paths.items
+  pub places : map string_bytes new.places.items ≡ map string_bytes old.places.items
+  pub told : vec_len new.listed.lengths ≡ vec_len old.listed.lengths
+  pub folder : string_bytes new.folder ≡ string_bytes old.folder
+  pub refused : map told_of new.refused.items ≡ map told_of old.refused.items ++ (path, refusal) ∷ []
+
+-- what so many names lead to: a folder has names that rise, and a file is no deeper than it may be
+abbrev pub IsStanding : ℕ → Standing → Type 0
+IsStanding depth (Folder names) = IsStrictlySortedBy (λ name next. name_cmp name.items next.items) names.items
+IsStanding depth (File _) = depth ≤ MAX_NAMES
+IsStanding depth (NotTaken _) = Unit {0}
 
 -- each path comes before this one
 abbrev pub AreBefore : List (List ℕ) → List (List (List ℕ)) → Type 0
@@ -60,7 +90,7 @@ pub record IsEntered (found : List (List (List ℕ))) (path : List (List ℕ)) (
 abbrev pub name_of : WaitingName → List ℕ
 name_of entry = entry.name.items
 
--- entries that waited before, and after them the names in a folder with this listing
-pub record HasAdded (listing : List ℕ) (before after : List WaitingName) : Type 0 where
+-- entries that waited before, and after them these names
+pub record HasAdded (names : List (List ℕ)) (before after : List WaitingName) : Type 0 where
   pub stay : take (length before) after ≡ before
-  pub named : HasSameNames (names_in listing) (map name_of (drop (length before) after))
+  pub named : HasSameNames names (map name_of (drop (length before) after))

@@ -10,20 +10,20 @@ use Rattle.tor_source.proofs.Added.{moved_all, moved_more, moved_none, none_left
 use Rattle.tor_source.proofs.walk.add_names.Goals as goal
 
 pub loop-name-init : goal.loop-name-init
-loop-name-init g c = (
-  c.in_ok-names.ensures.rising,
+loop-name-init c = (
+  c.requires,
   λ found start. (
     ahead_folder found c.args.above.now c.args.waiting.now.items start,
     λ k d lt. waiting_inside found
         (map (path_in c.args.above.now) c.args.waiting.now.items) c.args.above.now
-        (get_or c.in_ok-names.names.items k d).items start.paths,
+        (get_or c.args.names.items k d).items start.paths,
   ),
-  moved_none c.in_ok-names.names.items
+  moved_none c.args.names.items
       c.args.waiting.now.items,
 )
 
 pub loop-name-preserved : goal.loop-name-preserved
-loop-name-preserved g c =
+loop-name-preserved c =
     let above = c.args.above.now in
     let name = c.in-Some.name in
     let left = c.pop.new.self.items in
@@ -48,16 +48,16 @@ loop-name-preserved g c =
                 (waiting_name found waiting above (get_or left k d).items name.items less each.1 (each.0 k d lt)),
           ),
       rw c.in_ok-push.ensures.items
-          (moved_more c.in_ok-names.names.items left c.args.waiting.now.items entries next
+          (moved_more c.args.names.items left c.args.waiting.now.items entries next
           (rw items at c.loop-name.invariant.2)),
     )
 
 pub returns-clause-ahead : goal.returns-clause-ahead
-returns-clause-ahead g c = λ found start. (c.loop-name.invariant.1 found start).0
+returns-clause-ahead c = λ found start. (c.loop-name.invariant.1 found start).0
 
 pub returns-clause-all : goal.returns-clause-all
-returns-clause-all g c =
+returns-clause-all c =
     let none : c.loop-name.names.items ≡ [] =
     none_left c.loop-name.names.items (omega (arith, c.loop-name.names.ok.0, c.in_default.ensures.cases.0)) in
-    moved_all (g.D.Read.remaining c.args.folder) c.in_ok-names.names.items c.args.waiting.now.items
-    c.loop-name.waiting.items c.in_ok-names.ensures.all (rw none at c.loop-name.invariant.2)
+    moved_all c.args.names.items c.args.waiting.now.items c.loop-name.waiting.items
+    (rw none at c.loop-name.invariant.2)

@@ -3,4 +3,4 @@ use Rattle.tor_source.proofs.Entries.{entered_first}
 use Rattle.tor_source.proofs.walk.names_at_top.Goals as goal
 
 pub returns : goal.returns
-returns g c = c.in_ok-add_names.ensures.ahead [] (rw c.new-waiting.ensures.items entered_first)
+returns c = c.in_ok-add_names.ensures.ahead [] (rw c.new-waiting.ensures.items entered_first)
