@@ -4,6 +4,7 @@ pub mod Entries
 pub mod FirstFault
 pub mod FoundFiles
 pub mod Inputs
+pub mod Parted
 pub mod PathOrder
 pub mod Pieces
 pub mod ProvedLaws

@@ -15,7 +15,7 @@ use Rattle.tor_source.specs.steps.Listing.{HasSameNames, names_in}
 abbrev Name : Type 0
 Name = Vec ℕ Global
 
-same_bytes : (xs ys : List ℕ) → pointwise nat_eq xs ys ≡ true → xs ≡ ys
+pub same_bytes : (xs ys : List ℕ) → pointwise nat_eq xs ys ≡ true → xs ≡ ys
 same_bytes [] [] e = refl
 same_bytes [] (y ∷ ys) e = cc
 same_bytes (x ∷ xs) [] e = cc

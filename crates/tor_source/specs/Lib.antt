@@ -2,6 +2,7 @@ pub mod Answers
 pub mod Faults
 pub mod Filling
 pub mod Input
+pub mod Named
 pub mod Places
 pub mod Source
 pub mod Sources

@@ -7,14 +7,17 @@ ghost use Rattle.std.specs.IoError.{error_kind};
 ghost use Rattle.std.specs.String.{string_bytes};
 ghost use Rattle.tor_source.specs.Answers.{system_answers};
 ghost use Rattle.tor_source.specs.Faults.{is_absence};
+ghost use Rattle.tor_source.specs.Named.{AreParted, path_of};
 ghost use Rattle.tor_source.specs.Places.{place_of};
 ghost use Rattle.tor_source.specs.declared.faults.ScanFault.TheVariants.{Memory, System};
 ghost use Rattle.tor_tree.specs.declared.paths.TheConstants.{MAX_NAMES};
 ghost use Rattle.tor_tree.specs.Path.{path_cmp};
 
 use crate::faults::ScanFault;
-use crate::lazy::LazyFile;
-use crate::listed::{ListedFile, ListedFiles, read_listed};
+use crate::found::FoundFiles;
+use crate::lazy::{LazyFile, readers_of};
+use crate::listed::{ListedFiles, read_listed};
+use crate::named::find;
 use crate::places::{one_place, places_of};
 use crate::refused::Refused;
 use crate::source::Source;
@@ -95,11 +98,47 @@ impl<R: Files + Clone + Drop> FolderSource<R> {
             return Err(ScanFault::System);
         }
         let found = walk(rt, alloc, place)?;
+        let survey = FolderSource::survey_of(rt, found)?;
+        Ok(survey)
+    }
+
+    // What was found below a folder.
+    fn survey_of(rt: &R, found: FoundFiles) -> Result<Survey<R>, AllocError>
+        requires { vec_len found.listed.lengths ≡ vec_len found.places }
+        ensures source { IfOk result (λ survey. survey.source ≡ map string_bytes found.places.items) }
+        ensures paths { IfOk result (λ survey. survey.paths ≡ found.paths) }
+        ensures refused { IfOk result (λ survey. survey.refused ≡ found.refused) }
+    {
         Ok(Survey {
             source: FolderSource::of_listed(rt, found.places, found.listed)?,
             paths: found.paths,
             refused: found.refused,
         })
+    }
+
+    /// These files below a folder, as far as they can be taken: each in its turn is taken or refused. What leads to one
+    /// has to be folders and no link, and the file a regular one.
+    pub fn listed(
+        rt: &R,
+        alloc: Global,
+        folder: &str,
+        files: Vec<FilePath>,
+    ) -> Result<Survey<R>, ScanFault>
+    where
+        R::File: AsRawFd,
+        ensures placed { IfOk result (λ survey. survey.source ≡ map (place_of folder.now) survey.paths.items) }
+        ensures each { IfOk result
+            (λ survey. AreParted files.items survey.paths.items (map path_of survey.refused.items)) }
+        ensures all { IfOk result (λ survey. survey.refused.items ≡ [] → survey.paths.items ≡ files.items) }
+        ensures short { IfOk result (λ survey. All (λ names. length names ≤ MAX_NAMES) survey.paths.items) }
+        ensures nowhere { folder.now ≡ [] → result ≡ Err System }
+    {
+        if folder.is_empty() {
+            return Err(ScanFault::System);
+        }
+        let found = find(rt, alloc, folder, &files)?;
+        let survey = FolderSource::survey_of(rt, found)?;
+        Ok(survey)
     }
 
     /// How many bytes each file has, as the listing told; 0 of a file that was not listed.
@@ -180,36 +219,6 @@ impl<R: Files + Clone + Drop> FolderSource<R> {
     {
         self.places.len()
     }
-}
-
-// A reader of the file at each of these places.
-fn readers_of<R: Files + Clone + Drop>(
-    rt: &R,
-    alloc: Global,
-    places: &[String],
-    listed: &ListedFiles,
-) -> Result<Vec<LazyFile<R>>, AllocError>
-    ensures { IfOk result (λ readers. readers.items ≡ map string_bytes places.now) }
-{
-    let mut readers = Vec::with_capacity(alloc, places.len())?;
-    'places: for place in places {
-        let listed = listed.get(readers.len());
-        readers.push(reader_of(rt, alloc, place, listed)?)?;
-    }
-    Ok(readers)
-}
-
-// A reader of the file at this place.
-fn reader_of<R: Files + Clone + Drop>(
-    rt: &R,
-    alloc: Global,
-    place: &str,
-    listed: Option<ListedFile>,
-) -> Result<LazyFile<R>, AllocError>
-    ensures { IfOk result (λ reader. reader ≡ place.now) }
-{
-    let place = String::from_str(alloc, place)?;
-    Ok(LazyFile::new(rt.clone()?, place, listed))
 }
 
 /// No contract can say what a file of the system holds, nor that it stays as it is: so this source is steady for no

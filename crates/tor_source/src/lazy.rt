@@ -1,11 +1,12 @@
 //! Files of the system that are read once and in order.
-ghost use Rattle.std.specs.Prelude.{◌≡◌, ◌≤◌, IfOk, length};
+ghost use Rattle.std.specs.Prelude.{◌≡◌, ◌≤◌, IfOk, length, map};
 ghost use Rattle.std.specs.Io.{ReadsAtMost};
 ghost use Rattle.std.specs.Io.KnownBytes.{ReadConsumes};
 ghost use Rattle.std.specs.String.{string_bytes};
 
-use crate::listed::{ListedFile, open_listed};
+use crate::listed::{ListedFile, ListedFiles, open_listed};
 use crate::regular;
+use std::alloc::{AllocError, Global};
 use std::io::{self, ErrorKind, Read};
 use std::marker::Model;
 use std::rt::Files;
@@ -63,6 +64,36 @@ impl<R: Files> LazyFile<R> {
         }
         Ok(())
     }
+}
+
+/// A reader of the file at each of these places, of which this was told.
+pub(crate) fn readers_of<R: Files + Clone + Drop>(
+    rt: &R,
+    alloc: Global,
+    places: &[String],
+    listed: &ListedFiles,
+) -> Result<Vec<LazyFile<R>>, AllocError>
+    ensures { IfOk result (λ readers. readers.items ≡ map string_bytes places.now) }
+{
+    let mut readers = Vec::with_capacity(alloc, places.len())?;
+    'places: for place in places {
+        let listed = listed.get(readers.len());
+        readers.push(reader_of(rt, alloc, place, listed)?)?;
+    }
+    Ok(readers)
+}
+
+// A reader of the file at this place.
+fn reader_of<R: Files + Clone + Drop>(
+    rt: &R,
+    alloc: Global,
+    place: &str,
+    listed: Option<ListedFile>,
+) -> Result<LazyFile<R>, AllocError>
+    ensures { IfOk result (λ reader. reader ≡ place.now) }
+{
+    let place = String::from_str(alloc, place)?;
+    Ok(LazyFile::new(rt.clone()?, place, listed))
 }
 
 // The file at a place, opened. One that was listed has to be as it was.

@@ -14,7 +14,8 @@
 //! ```
 //!
 //! - [`Source`] (`source.rt`): files by their numbers; what a steady source answers.
-//! - [`FolderSource`] (`folder.rt`): the files below a folder, or a file by itself, as the system has them.
+//! - [`FolderSource`] (`folder.rt`): the files below a folder, or a file by itself, as the system has them. [`Survey`]:
+//!   those that can be taken, and each [`Refused`] one with its [`Refusal`] (`refused.rt`).
 //! - [`MemSource`] (`memory.rt`), [`FailSource`] (`failing.rt`), [`ShortSource`] (`short.rt`): files in memory, with
 //!   faults at chosen offsets, or read in small steps.
 //! - [`LazyFile`] (`lazy.rt`): a file of the system that is read once and in order.
@@ -25,10 +26,10 @@
 //!   buffer filled from a reader, or the [`FillFault`]; [`zeros`] (`buffer.rt`): room to read into.
 //! - [`laws`] (`laws.rt`): laws over the sources in memory, and the limits of an input.
 //!
-//! `walk.rt` finds the files below a folder, `listing.rt` the names in one, and `open_folders.rt` holds folders open
-//! meanwhile; `places.rt` joins places and names,
-//! `regular.rt` reads what stands at a place, `listed.rt` a file that has to be as it was listed, and `same_file.rt` tells
-//! whether two places have one file.
+//! `walk.rt` finds the files below a folder, `named.rt` those of a list, both into `found.rt`; `listing.rt` reads the
+//! names in a folder, and `open_folders.rt` holds folders open meanwhile. `places.rt` joins places and names,
+//! `regular.rt` reads what stands at a place, `listed.rt` a file that has to be as it was listed, and `same_file.rt`
+//! tells whether two places have one file.
 #![tactic(auto)]
 
 mod buffer;
@@ -44,6 +45,7 @@ mod lazy;
 mod listed;
 mod listing;
 mod memory;
+mod named;
 mod open_folders;
 mod places;
 mod refused;

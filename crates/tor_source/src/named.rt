@@ -1,0 +1,159 @@
+//! Files that are named one by one, looked for below a folder.
+ghost use Rattle.std.specs.Prelude.{◌≡◌, ◌≢◌, ◌≤◌, ◌++◌, ◌∷◌, ℕ, List, [], IfOk, OnOk, length, take};
+ghost use Rattle.std.specs.String.{string_bytes};
+ghost use Rattle.tor_source.specs.Places.{without_slash};
+ghost use Rattle.tor_source.specs.steps.Named.{HasLookedFor, IsSought};
+
+use crate::faults::{ScanFault, is_absence};
+use crate::found::{FoundFiles, add_file, none_found, refuse_last};
+use crate::listed::ListedFile;
+use crate::open_folders::OpenFolders;
+use crate::refused::{Refusal, kind_of};
+use std::alloc::{AllocError, Global};
+use std::io::{self, ErrorKind};
+use std::os::fd::AsRawFd;
+use std::rt::Files;
+use tor_tree::{FilePath, MAX_NAMES, Name};
+
+/// The folders that lead to the file that was looked for last, as far as they are known to be folders.
+#[derive(Drop)]
+struct Way<R: Files> {
+    names: Vec<Name>,
+    open: OpenFolders<R>,
+}
+
+/// What a path leads to, if a file is looked for.
+#[derive(Drop)]
+pub(crate) enum Sought {
+    File(ListedFile),
+    NotTaken(Refusal),
+}
+
+/// What is found of these files below a folder. A folder that leads to the file before, too, is not asked for again.
+pub(crate) fn find<R: Files>(
+    rt: &R,
+    alloc: Global,
+    root: &str,
+    files: &[FilePath],
+) -> Result<FoundFiles, ScanFault>
+where
+    R::File: AsRawFd,
+    ensures found { IfOk result (HasLookedFor files.now) }
+    ensures folder { IfOk result (λ found. string_bytes found.folder ≡ without_slash root.now) }
+{
+    let mut found = none_found(alloc, root)?;
+    let mut way = Way {
+        names: Vec::new(alloc),
+        open: OpenFolders::at_top(rt, alloc, root)?,
+    };
+    'files: for file in files {
+        let sought = look_for(rt, alloc, &mut way, file.names())?;
+        settle(alloc, sought, file, &mut found)?;
+    }
+    Ok(found)
+}
+
+// Adds a file more, or what is refused, by what its path leads to.
+fn settle(
+    alloc: Global,
+    sought: Sought,
+    file: &FilePath,
+    found: &mut FoundFiles,
+) -> Result<(), AllocError>
+    requires { IsSought (length file.now) sought }
+    ensures found { (files : List (List (List ℕ))) → HasLookedFor files found.old →
+        OnOk result (HasLookedFor (files ++ file.now ∷ []) found.new) }
+    ensures folder_stays { OnOk result (string_bytes found.new.folder ≡ string_bytes found.old.folder) }
+{
+    match sought {
+        Sought::File(listed) => add_file(alloc, listed, file.names(), found),
+        Sought::NotTaken(refusal) => refuse_last(alloc, file.names(), refusal, found),
+    }
+}
+
+// What these names lead to. A fault of the system refuses it, but for want of memory.
+fn look_for<R: Files>(
+    rt: &R,
+    alloc: Global,
+    way: &mut Way<R>,
+    names: &[Name],
+) -> Result<Sought, ScanFault>
+where
+    R::File: AsRawFd,
+    ensures { IfOk result (IsSought (length names.now)) }
+{
+    match sought_at(rt, alloc, way, names) {
+        Ok(sought) => Ok(sought),
+        Err(fault) if matches!(fault.kind(), ErrorKind::OutOfMemory) => Err(ScanFault::Memory),
+        Err(fault) if is_absence(fault.kind()) => Ok(Sought::NotTaken(Refusal::Missing)),
+        Err(fault) => Ok(Sought::NotTaken(Refusal::System(fault))),
+    }
+}
+
+fn sought_at<R: Files>(
+    rt: &R,
+    alloc: Global,
+    way: &mut Way<R>,
+    names: &[Name],
+) -> io::Result<Sought>
+where
+    R::File: AsRawFd,
+    ensures { IfOk result (IsSought (length names.now)) }
+{
+    if names.len() > MAX_NAMES {
+        return Ok(Sought::NotTaken(Refusal::TooDeep));
+    }
+    let (folders, _) = names.split_at(names.len().saturating_sub(1));
+    let known = common(&way.names, folders);
+    way.names.truncate(known);
+    way.open.leave(known);
+    if let Some(refusal) = go_on(rt, alloc, way, folders)? {
+        return Ok(Sought::NotTaken(refusal));
+    }
+    let place = way.open.place_of(alloc, names)?;
+    let metadata = rt.symlink_metadata(&place)?;
+    if !metadata.is_file() {
+        return Ok(Sought::NotTaken(Refusal::NotRegular(kind_of(&metadata))));
+    }
+    Ok(Sought::File(ListedFile::of(&metadata)))
+}
+
+// How many names both begin with.
+fn common(one: &[Name], other: &[Name]) -> usize
+    ensures within { result ≤ length one.now }
+    ensures same { take result one.now ≡ take result other.now }
+{
+    let most = one.len().min(other.len());
+    for index in 0..most {
+        if one[index] != other[index] {
+            return index;
+        }
+    }
+    most
+}
+
+// Goes into the folders that are not known yet; or why one of them is not gone into.
+fn go_on<R: Files>(
+    rt: &R,
+    alloc: Global,
+    way: &mut Way<R>,
+    folders: &[Name],
+) -> io::Result<Option<Refusal>>
+where
+    R::File: AsRawFd,
+{
+    for depth in way.names.len()..folders.len() {
+        let (above, _) = folders.split_at(depth + 1);
+        let place = way.open.place_of(alloc, above)?;
+        let metadata = rt.symlink_metadata(&place)?;
+        if metadata.is_file() {
+            return Ok(Some(Refusal::Missing));
+        }
+        if !metadata.is_dir() {
+            return Ok(Some(Refusal::NotRegular(kind_of(&metadata))));
+        }
+        way.open.go_into(rt, alloc, &place, &metadata)?;
+        way.names.push(folders[depth].copy(alloc)?)?;
+    }
+    Ok(None)
+}
