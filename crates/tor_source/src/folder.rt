@@ -77,7 +77,7 @@ impl<R: Files + Clone + Drop> FolderSource<R> {
         ensures short { IfOk result (λ found. All (λ names. length names ≤ MAX_NAMES) found.1.items) }
         ensures nowhere { place.now ≡ [] → result ≡ Err System }
     {
-        let survey = FolderSource::survey(rt, alloc, place)?;
+        let survey = FolderSource::surveyed(rt, alloc, place, true)?;
         match survey.refused.first() {
             Some(first) => Err(first.refusal.fault()),
             None => Ok((survey.source, survey.paths)),
@@ -94,10 +94,22 @@ impl<R: Files + Clone + Drop> FolderSource<R> {
         ensures short { IfOk result (λ survey. All (λ names. length names ≤ MAX_NAMES) survey.paths.items) }
         ensures nowhere { place.now ≡ [] → result ≡ Err System }
     {
+        FolderSource::surveyed(rt, alloc, place, false)
+    }
+
+    // As `survey`; it ends where something is refused, if that is wanted.
+    fn surveyed(rt: &R, alloc: Global, place: &str, ends: bool) -> Result<Survey<R>, ScanFault>
+    where
+        R::File: AsRawFd,
+        ensures placed { IfOk result (λ survey. survey.source ≡ map (place_of place.now) survey.paths.items) }
+        ensures rising { IfOk result (λ survey. IsStrictlySortedBy path_cmp survey.paths.items) }
+        ensures short { IfOk result (λ survey. All (λ names. length names ≤ MAX_NAMES) survey.paths.items) }
+        ensures nowhere { place.now ≡ [] → result ≡ Err System }
+    {
         if place.is_empty() {
             return Err(ScanFault::System);
         }
-        let found = walk(rt, alloc, place)?;
+        let found = walk(rt, alloc, place, ends)?;
         let survey = FolderSource::survey_of(rt, found)?;
         Ok(survey)
     }

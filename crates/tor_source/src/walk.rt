@@ -37,8 +37,13 @@ pub(crate) enum Standing {
 }
 
 /// All files below a folder. A folder is listed whole, and its names are entered in the order of their bytes, each
-/// folder where it is met. What is refused is passed over.
-pub(crate) fn walk<R: Files>(rt: &R, alloc: Global, root: &str) -> Result<FoundFiles, ScanFault>
+/// folder where it is met. What is refused is passed over, or ends the walk if that is wanted.
+pub(crate) fn walk<R: Files>(
+    rt: &R,
+    alloc: Global,
+    root: &str,
+    ends: bool,
+) -> Result<FoundFiles, ScanFault>
 where
     R::File: AsRawFd,
     ensures { IfOk result (HasFound (without_slash root.now)) }
