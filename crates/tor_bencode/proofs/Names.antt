@@ -28,7 +28,7 @@ pub use Rattle.std.specs.FinMap.{nat_cmp-IsAntisymmetric, slice_cmp-IsAntisymmet
 pub use Rattle.std.specs.Fmt.{signed_decimal}
 pub use Rattle.std.specs.Int.{w64}
 pub use Rattle.std.specs.Int.Digits.{AllBelowBase, digits_of, number_from_digits_after}
-pub use Rattle.std.specs.List.{list_all, prefix_len}
+pub use Rattle.std.specs.List.{list_all, prefix_len, slice_get}
 pub use Rattle.std.specs.List.Sorted.{IsBinarySearchResult, IsSearchInRange, IsSortedBy}
 pub use Rattle.std.specs.Ordering.{is_eq, is_lt, nat_cmp, ordering_reverse}
 pub use Rattle.std.specs.Prelude.{FitsSigned, codes, decimal, nat_le, nat_lt}
@@ -38,7 +38,7 @@ pub use Rattle.tor_bencode.specs.Data.{pair, string}
 pub use Rattle.tor_bencode.specs.Fault.{Begins, BeginsWithDigit, HasBadLength, IsBadInteger, IsBadKey, IsBadValue}
 pub use Rattle.tor_bencode.specs.Fault.{IsCutInteger, IsCutString, IsFaultAt, IsFaultIn, IsOutOfOrder, IsTooLarge}
 pub use Rattle.tor_bencode.specs.Fault.{IsTrailing, Runs, at_key, at_value, in_list, in_pair, is_integer_byte, last_key}
-pub use Rattle.tor_bencode.specs.Find.{value_in, value_of}
+pub use Rattle.tor_bencode.specs.Find.{keys_in, value_in, value_of}
 pub use Rattle.tor_bencode.specs.Lawful.{AreRising, HasRisingKeys, IsLawful, IsLawfulWithin, ItemsAreLawfulWithin}
 pub use Rattle.tor_bencode.specs.Lawful.{PairsAreLawfulWithin, PairsHaveRisingKeys}
 pub use Rattle.tor_bencode.specs.Span.{IsSpelledAt, IsTree, span_in, span_of}

@@ -5,7 +5,7 @@ use Rattle.tor_bencode.proofs.Names.{AreRising, pairs_view, Item, false, Some, N
 use Rattle.tor_bencode.proofs.Names.{Ok, Err, IfOk, IfErr, refl, inl, inr, searchable_from_sorted, is_eq-slice_cmp}
 use Rattle.tor_bencode.proofs.Names.{cases_lt, nat_list_cmp_total, slice_cmp-IsAntisymmetric, nat_cmp-IsAntisymmetric}
 use Rattle.tor_bencode.proofs.Names.{IsBinarySearchResult, IsSearchInRange, IsSortedBy, is_eq, is_lt, ordering_reverse}
-use Rattle.tor_bencode.proofs.Names.{bytes_eq, value_in, view}
+use Rattle.tor_bencode.proofs.Names.{bytes_eq, slice_get, value_in, view}
 use Rattle.tor_bencode.proofs.Keys.{first_value, later_value, rising_rest, rising_skip}
 
 abbrev pub Pair : Type 0
@@ -107,3 +107,25 @@ module _ (pairs : List Pair) (rising : KeysRise pairs) (key : List ℕ) where
       × IfErr r (λ k. value_in key (pairs_view pairs) ≡ None)
   searched (Ok k) in_range equal = (λ d. found k d in_range (equal d), tt)
   searched (Err k) in_range parted = (tt, absent k parted)
+
+-- there are as many keys as pairs
+pub length-keys : (pairs : List Pair) → length (keys_of (pairs_view pairs)) ≡ length pairs
+length-keys [] = refl
+length-keys (p ∷ pairs) = ap (λ (n : ℕ). suc n) (length-keys pairs)
+
+-- the key of a pair
+named_at : (pairs : List Pair) (k : ℕ) (d : Pair) → k < length pairs
+    → slice_get (keys_of (pairs_view pairs)) k ≡ Some (get_or pairs k d).0.items
+named_at [] k d lt = absurd (omega (arith, lt))
+named_at (p ∷ pairs) zero d lt = refl
+named_at (p ∷ pairs) (suc k) d lt = named_at pairs k d (omega arith)
+
+-- what a search finds has the key that was looked for
+pub searched_name : (pairs : List Pair) (key : List ℕ) (r : Result ℕ ℕ) → IsSearchInRange r (length pairs)
+    → IsBinarySearchResult (λ p. slice_cmp nat_cmp p.0.items key) pairs r
+    → IfOk r (λ k. slice_get (keys_of (pairs_view pairs)) k ≡ Some key)
+searched_name [] key (Ok k) in_range equal = absurd (omega (arith, in_range))
+searched_name (p ∷ pairs) key (Ok k) in_range equal =
+    named_at (p ∷ pairs) k p in_range
+    ∙ ap Some (slice_cmp-IsAntisymmetric nat_cmp-IsAntisymmetric _ key (equal p))
+searched_name pairs key (Err k) in_range parted = tt

@@ -13,7 +13,7 @@
 //! - [`Tree`] (`tree.rt`): an item that may stand in a torrent: keys rise, nesting has an end.
 //! - [`encode`] (`write.rt`): the spelling of a tree.
 //! - [`decode`] (`read.rt`): the tree of a spelling, or the first fault of the bytes.
-//! - [`find`] and [`find_in_order`] (`lookup.rt`): the value of a key.
+//! - [`find`] and [`find_in_order`] (`lookup.rt`): the value of a key; [`find_index_in_order`]: its index too.
 //! - `span` (`value_span.rt`): where the value of a key is spelled.
 //! - [`BenError`] (`error.rt`), [`Fault`] (`fault.rt`): what these refuse.
 //! - [`laws`] (`laws.rt`): laws over the definitions of `specs/`.
@@ -40,7 +40,7 @@ pub const MAX_NESTING: usize = 100;
 pub use error::BenError;
 pub use fault::Fault;
 pub use item::Item;
-pub use lookup::{find, find_in_order};
+pub use lookup::{count_keys, find, find_in_order, find_index_in_order};
 pub use read::decode;
 pub use tree::Tree;
 pub use value_span::span;

@@ -30,11 +30,9 @@ shaped_length p n bytes long shaped =
     by_test true e = refl
     by_test false e = absurd (true≢false e)
 
-pub few_hashes : FewPieceRoots → (p n bytes hashes level : ℕ) → IsPieceLength p → n ≤ MAX_LENGTH → p < n
-    → (nat_lt p n && not (bytes == 32 * div_ceil n p)) ≡ false → hashes ≡ bytes / 32 → level ≡ piece_level p
-    → hashes ≤ 2 ^ (36 - level)
-few_hashes few p n bytes hashes level allowed small long shaped cut is =
+pub few_hashes : FewPieceRoots → (p n bytes hashes level : ℕ) → IsPieceLength p → n ≤ MAX_LENGTH
+    → bytes ≡ 32 * div_ceil n p → hashes ≡ bytes / 32 → level ≡ piece_level p → hashes ≤ 2 ^ (36 - level)
+few_hashes few p n bytes hashes level allowed small whole cut is =
     let count = few_pieces few p n allowed small in
-    let whole = shaped_length p n bytes long shaped in
     let all : hashes ≤ 2 ^ (36 - piece_level p) = omega (arith, count, whole, cut) in
     subst (λ (k : ℕ). hashes ≤ 2 ^ (36 - k)) (sym is) all

@@ -6,6 +6,7 @@ pub mod SideLemmas
 pub mod ListDecides
 pub mod BothSides
 pub mod LayerSteps
+pub mod Kept
 pub mod TailSteps
 pub mod Bounds
 pub mod Hybrids

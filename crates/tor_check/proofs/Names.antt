@@ -29,7 +29,7 @@ pub use Rattle.std.specs.Slice.Iter.{iter_rest}
 pub use Rattle.std.specs.Str.{bytes_eq}
 pub use Rattle.tor_bencode.proofs.ProvedLaws.{no_spelling_begins_another, value_has_rising_keys}
 pub use Rattle.tor_bencode.specs.Data.{Data, dictionary, list, no_pairs}
-pub use Rattle.tor_bencode.specs.Find.{value_of}
+pub use Rattle.tor_bencode.specs.Find.{keys_in, value_of}
 pub use Rattle.tor_bencode.specs.Lawful.{HasRisingKeys, IsLawful}
 pub use Rattle.tor_bencode.specs.Spelling.{spelling}
 pub use Rattle.tor_bencode.specs.View.{items_of, items_view, view}
@@ -45,7 +45,7 @@ pub use Rattle.tor_check.specs.declared.refusal.Refusal.{Refusal}
 pub use Rattle.tor_check.specs.declared.refusal.Refusal.TheVariants.{Memory}
 pub use Rattle.tor_check.specs.steps.Judged.{IsFirst, Names, alignment_conditions, conditions_before_memory, first_in}
 pub use Rattle.tor_check.specs.steps.Judged.{first_of_alignment, head_conditions, layer_conditions}
-pub use Rattle.tor_check.specs.steps.Layers.{seen}
+pub use Rattle.tor_check.specs.steps.Layers.{IsJudged, IsKept, IsShared, hashes_of, layer_of_root, seen}
 pub use Rattle.tor_check.specs.steps.Listed.{all_listed, file_of_listed, files_from, first_after_sizes, first_of_list}
 pub use Rattle.tor_check.specs.steps.Listed.{list_holds, listed_entry, listed_single, lists_some, marks_in, marks_of}
 pub use Rattle.tor_check.specs.steps.Listed.{side_conditions, size_of_listed, sized, sized_files, takes_files}
@@ -65,7 +65,7 @@ pub use Rattle.tor_merkle.specs.declared.TheConstants.{MAX_LENGTH}
 pub use Rattle.tor_spec.specs.valid.Conditions.{Condition, IsValid, conditions, holds, of_list, of_tree, refusal_of}
 pub use Rattle.tor_spec.specs.valid.Heads.{is_no_piece_length}
 pub use Rattle.tor_spec.specs.valid.Layers.{has_other_root, is_misshaped, lacks_layer, layer_length, layer_of}
-pub use Rattle.tor_spec.specs.valid.Layers.{layer_root, layer_text, layers_of, pieces_in, root_of_file}
+pub use Rattle.tor_spec.specs.valid.Layers.{hashes_in, layer_root, layer_text, layers_of, pieces_in, root_of_file}
 pub use Rattle.tor_spec.specs.valid.ListSide.{ListedFile, described, entry_file, has_list, is_name, is_no_entry}
 pub use Rattle.tor_spec.specs.valid.ListSide.{is_no_sums, is_path, joined_size, letter_p, list_duplicate}
 pub use Rattle.tor_spec.specs.valid.ListSide.{list_file_and_folder, list_length, list_no_files, list_pieces, list_shape}

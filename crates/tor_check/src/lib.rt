@@ -15,7 +15,8 @@
 //!   ([`ProveError`]).
 //!
 //! The root and the keys that all kinds have: `head.rt`. The v1 side: `marks.rt` and `listed.rt` read it,
-//! `list_side.rt` judges it; the v2 side: `tree_side.rt`; both: `sides.rt`. Piece layers: `layer_keys.rt`, `layers.rt`.
+//! `list_side.rt` judges it; the v2 side: `tree_side.rt`; both: `sides.rt`. Piece layers: `layer_keys.rt`, `layers.rt`,
+//! `layer_texts.rt`, `layer_roots.rt`, `shared_layers.rt`.
 //! Where the sides of a hybrid agree: `agree.rt`, judged in `alignment.rt`. What is told: `views.rt`, `described.rt`.
 //! `parts.rt` reads single keys.
 #![tactic(auto)]
@@ -25,6 +26,8 @@ mod alignment;
 mod described;
 mod head;
 mod layer_keys;
+mod layer_roots;
+mod layer_texts;
 mod layers;
 mod list_side;
 mod listed;
@@ -32,6 +35,7 @@ mod marks;
 mod parts;
 mod piece_proofs;
 mod refusal;
+mod shared_layers;
 mod sides;
 mod torrent;
 mod tree_side;

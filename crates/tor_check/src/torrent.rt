@@ -1,5 +1,6 @@
 //! What a foreign torrent describes.
 use std::marker::Model;
+use std::sync::ArcSlice;
 use tor_merkle::Hash;
 use tor_tree::{Kind, Name, TreeFile};
 use tor_v1::Entry;
@@ -8,15 +9,17 @@ use tor_v1::Entry;
 #[derive(Drop)]
 pub struct ViewFile {
     pub(crate) file: TreeFile,
-    pub(crate) layer: Vec<Hash>,
+    /// Files of one root share their layer.
+    pub(crate) layer: Option<ArcSlice<Hash>>,
 }
 
 impl Model for ViewFile {
+    ghost use Rattle.tor_check.specs.steps.Layers.{hashes_of};
     ghost use Rattle.tor_spec.specs.valid.View.{FileView};
 
     ghost Value = { FileView };
 
-    ghost view = { λ view. record { file = view.file; layer = view.layer.items } };
+    ghost view = { λ view. record { file = view.file; layer = hashes_of view.layer } };
 }
 
 impl ViewFile {
@@ -34,7 +37,10 @@ impl ViewFile {
     pub fn layer(&self) -> &[Hash]
         ensures { result.now ≡ self.now.layer }
     {
-        self.layer.as_slice()
+        match &self.layer {
+            Some(layer) => layer.as_slice(),
+            None => &[],
+        }
     }
 }
 

@@ -56,7 +56,7 @@ fn judge(alloc: Global, root: &Item, info_span: (usize, usize)) -> Result<Torren
         Ok(sides) => sides,
         Err(refusal) => return Err(refusal),
     };
-    if let Err(refusal) = judge_layers(root, &head, &sides) {
+    if let Err(refusal) = judge_layers(alloc, root, &head, &sides) {
         return Err(refusal);
     }
     if let Err(refusal) = judge_alignment(&head, &sides) {

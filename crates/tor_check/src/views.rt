@@ -2,7 +2,7 @@
 ghost use Rattle.std.specs.Prelude.{◌≡◌, ◌<◌, ◌^◌, IfOk, IfNone, map, sum_by};
 ghost use Rattle.tor_check.specs.steps.Layers.{seen};
 ghost use Rattle.tor_check.specs.steps.Listed.{files_from};
-ghost use Rattle.tor_check.specs.steps.Views.{layer_for, viewed};
+ghost use Rattle.tor_check.specs.steps.Views.{viewed};
 ghost use Rattle.tor_check.specs.declared.listed.Listed.{Listed as ListedFacts};
 ghost use Rattle.tor_spec.specs.valid.Layers.{pieces_in};
 ghost use Rattle.tor_spec.specs.valid.ListSide.{without_padding};
@@ -10,11 +10,11 @@ ghost use Rattle.tor_spec.specs.valid.View.{entry_of_file, file_of_both, file_of
 ghost use Rattle.tor_check.specs.steps.Listed.{file_of_listed};
 
 use crate::layer_keys::Layers;
-use crate::layers::text_of_layer;
+use crate::layer_texts::count_layers;
 use crate::listed::Listed;
+use crate::shared_layers::{layer_of, no_layers};
 use crate::torrent::ViewFile;
 use std::alloc::{AllocError, Global};
-use tor_merkle::Hash;
 use tor_tree::{FilePath, TreeFile};
 use tor_v1::{Entry, pad_entry};
 
@@ -56,23 +56,14 @@ pub fn views_of_tree(
 ) -> Result<Vec<ViewFile>, AllocError>
     ensures { IfOk result (λ views. views.items ≡ map (viewed layers.now.piece_length (seen layers.now)) files.items) }
 {
+    let mut memory = no_layers(alloc, count_layers(layers))?;
+    let shared = memory.as_mut_slice();
     let mut views = Vec::with_capacity(alloc, files.len())?;
     'files: for file in files {
-        let layer = layer_of(alloc, layers, &file)?;
+        let layer = layer_of(alloc, layers, &file, shared)?;
         views.push(ViewFile { file, layer })?;
     }
     Ok(views)
-}
-
-/// The layer of a file; a file of at most one piece has none.
-fn layer_of(alloc: Global, layers: &Layers<'_>, file: &TreeFile) -> Result<Vec<Hash>, AllocError>
-    ensures { IfOk result (λ layer. layer.items ≡ layer_for layers.now.piece_length (seen layers.now) file.now) }
-{
-    if file.length <= layers.piece_length {
-        return Ok(Vec::new(alloc));
-    }
-    let (hashes, _) = text_of_layer(layers, file).as_chunks::<32>();
-    Vec::from_slice(alloc, hashes)
 }
 
 /// The files of the v1 side, without padding.
@@ -102,7 +93,7 @@ fn view_of(alloc: Global, path: &FilePath, file: &Listed) -> Result<ViewFile, Al
             exec: file.marks.exec,
             hidden: file.marks.hidden,
         },
-        layer: Vec::new(alloc),
+        layer: None,
     })
 }
 

@@ -1,0 +1,78 @@
+//! Whether each piece layer has the root of its files (BEP 52, "piece layers"). A layer is hashed once, however many
+//! files have its root.
+ghost use Rattle.std.specs.Prelude.{◌≡◌, ◌≤◌, ◌<◌, ◌*◌, false, not, All, IfOk, length};
+ghost use Rattle.std.specs.Int.{div_ceil};
+ghost use Rattle.std.specs.List.{list_any};
+ghost use Rattle.std.specs.Str.{bytes_eq};
+ghost use Rattle.tor_bencode.specs.Find.{keys_in};
+ghost use Rattle.tor_check.specs.steps.Layers.{IsJudged, IsKept, seen};
+ghost use Rattle.tor_merkle.specs.Layer.{IsPieceLength, piece_level};
+ghost use Rattle.tor_merkle.specs.Stack.{padded_root};
+ghost use Rattle.tor_spec.specs.valid.Layers.{has_other_root, hashes_in, is_misshaped, root_of_file};
+ghost use Rattle.tor_merkle.specs.declared.TheConstants.{MAX_LENGTH};
+
+use crate::layer_keys::Layers;
+use crate::layer_texts::{count_layers, layer_at, root_of};
+use std::alloc::{AllocError, Global};
+use tor_merkle::laws::piece_roots_fit_a_layer;
+use tor_merkle::{layer_root, piece_level};
+use tor_tree::TreeFile;
+
+/// Whether a layer has not the root of its file. Each layer is one hash for each piece.
+pub fn has_other(alloc: Global, layers: &Layers<'_>, files: &[TreeFile]) -> Result<bool, AllocError>
+    requires piece_length { IsPieceLength layers.now.piece_length }
+    requires shaped { list_any (is_misshaped layers.now.piece_length (seen layers.now)) files.now ≡ false }
+    requires small { All (λ file. file.length ≤ MAX_LENGTH) files.now }
+    ensures { IfOk result (λ other.
+        other ≡ list_any (has_other_root layers.now.piece_length (seen layers.now)) files.now) }
+{
+    let mut memory = vec![in alloc; false; count_layers(layers)]?;
+    let judged = memory.as_mut_slice();
+    'files: for file in files {
+        if has_other_root(layers, file, judged) {
+            return Ok(true);
+        }
+    }
+    Ok(false)
+}
+
+/// Whether the layer of a file has not its root. `judged` has a mark for each root that was found to be that of its
+/// layer.
+fn has_other_root(layers: &Layers<'_>, file: &TreeFile, judged: &mut [bool]) -> bool
+    requires piece_length { IsPieceLength layers.now.piece_length }
+    requires shaped { is_misshaped layers.now.piece_length (seen layers.now) file.now ≡ false }
+    requires small { file.now.length ≤ MAX_LENGTH }
+    requires one_each { length judged.old ≡ length (keys_in (seen layers.now)) }
+    requires judged { IsKept (IsJudged layers.now.piece_length (seen layers.now)) (seen layers.now) judged.old }
+    ensures value { result ≡ has_other_root layers.now.piece_length (seen layers.now) file.now }
+    ensures judged { IsKept (IsJudged layers.now.piece_length (seen layers.now)) (seen layers.now) judged.new }
+{
+    if file.length <= layers.piece_length {
+        return false;
+    }
+    let Some((index, text)) = layer_at(layers, file) else {
+        unreachable!();
+    };
+    if judged[index] {
+        return false;
+    }
+    if is_other(layers.piece_length, text, file) {
+        return true;
+    }
+    judged[index] = true;
+    false
+}
+
+/// Whether a file has another root than the layer of this text, which has 32 bytes for each of its pieces.
+fn is_other(piece_length: u64, text: &[u8], file: &TreeFile) -> bool
+    requires piece_length { IsPieceLength piece_length }
+    requires long { piece_length < file.now.length }
+    requires small { file.now.length ≤ MAX_LENGTH }
+    requires shaped { length text.now ≡ 32 * div_ceil file.now.length piece_length }
+    ensures { result
+        ≡ not (bytes_eq (padded_root (piece_level piece_length) (hashes_in text.now)) (root_of_file file.now)) }
+{
+    piece_roots_fit_a_layer();
+    let (hashes, _) = text.as_chunks::<32>();
+    layer_root(hashes, piece_level(piece_length)).as_slice() != root_of(file)
+}
