@@ -2,8 +2,10 @@ pub mod Names
 pub mod Views
 pub mod Lawfulness
 pub mod Rising
+pub mod Searched
 pub mod Numerals
 pub mod Loops
+pub mod OwnedItems
 pub mod Values
 pub mod Runs
 pub mod Strings

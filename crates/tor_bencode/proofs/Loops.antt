@@ -1,9 +1,9 @@
 -- Items and pairs read one after the other, as a loop does.
 use Rattle.tor_bencode.proofs.Names.{◌≡◌, ℕ, zero, suc, ◌-◌, ◌≤◌, ◌<◌, List, [], ◌∷◌, ◌++◌, length, get_or, Some}
 use Rattle.tor_bencode.proofs.Names.{Result, Ok, Err, true, false, ◌==◌, refl, sym, ap, ap₂, take, drop, ◌∙◌, arith}
-use Rattle.tor_bencode.proofs.Names.{nat_tests, view, items_view, Item, Stop, Data, Items, no_items, item, Pairs}
+use Rattle.tor_bencode.proofs.Names.{nat_tests, ref_view, ref_items_view, ItemRef, Stop, Data, Items, no_items, item, Pairs}
 use Rattle.tor_bencode.proofs.Names.{no_pairs, pair, Fault, ◌>>=◌, Reading, Stops, value_at, value_with, nested_at}
-use Rattle.tor_bencode.proofs.Names.{items_at, Option, cond, Vec, Global, pairs_view, KeyOrder, pairs_at, string_at}
+use Rattle.tor_bencode.proofs.Names.{items_at, Option, cond, Bor, ref_pairs_view, KeyOrder, pairs_at, string_at}
 use Rattle.tor_bencode.proofs.Names.{follows, is_ascii_digit}
 use Rattle.tor_bencode.proofs.Runs.{take_rest}
 use Rattle.tor_bencode.proofs.Numerals.{digit_range}
@@ -39,10 +39,10 @@ pub items_before-no_items : (a : Items) → items_before a no_items ≡ a
 items_before-no_items no_items = refl
 items_before-no_items (item d a) = ap (item d) (items_before-no_items a)
 
-pub items_view-push : (items : List Item) (x : Item)
-    → items_view (items ++ x ∷ []) ≡ items_before (items_view items) (item (view x) no_items)
+pub items_view-push : (items : List ItemRef) (x : ItemRef)
+    → ref_items_view (items ++ x ∷ []) ≡ items_before (ref_items_view items) (item (ref_view x) no_items)
 items_view-push [] x = refl
-items_view-push (y ∷ items) x = ap (item (view y)) (items_view-push items x)
+items_view-push (y ∷ items) x = ap (item (ref_view y)) (items_view-push items x)
 
 regroup_items : (front : Items) (d : Data) (read : Reading Items)
     → with_items front (read >>= λ x. Ok (item d x.0, x.1)) ≡ with_items (items_before front (item d no_items)) read
@@ -102,10 +102,11 @@ pub pairs_before-no_pairs : (a : Pairs) → pairs_before a no_pairs ≡ a
 pairs_before-no_pairs no_pairs = refl
 pairs_before-no_pairs (pair key d a) = ap (pair key d) (pairs_before-no_pairs a)
 
-pub pairs_view-push : (pairs : List (Vec ℕ Global × Item)) (key : Vec ℕ Global) (x : Item)
-    → pairs_view (pairs ++ (key, x) ∷ []) ≡ pairs_before (pairs_view pairs) (pair key.items (view x) no_pairs)
+pub pairs_view-push : (pairs : List (Bor (List ℕ) × ItemRef)) (key : Bor (List ℕ)) (x : ItemRef)
+    → ref_pairs_view (pairs ++ (key, x) ∷ [])
+    ≡ pairs_before (ref_pairs_view pairs) (pair key.now (ref_view x) no_pairs)
 pairs_view-push [] key x = refl
-pairs_view-push (y ∷ pairs) key x = ap (pair y.0.items (view y.1)) (pairs_view-push pairs key x)
+pairs_view-push (y ∷ pairs) key x = ap (pair y.0.now (ref_view y.1)) (pairs_view-push pairs key x)
 
 regroup_pairs : (front : Pairs) (key : List ℕ) (d : Data) (read : Reading Pairs)
     → with_pairs front (read >>= λ x. Ok (pair key d x.0, x.1))

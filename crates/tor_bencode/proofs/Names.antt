@@ -10,7 +10,7 @@ pub use Rattle.std.proofs.lemmas.Bool.{leb-true, true≢false}
 pub use Rattle.std.proofs.lemmas.Bool.Decides.{nat_tests}
 pub use Rattle.std.proofs.lemmas.Fmt.{decimal_by_steps}
 pub use Rattle.std.proofs.lemmas.Fn.{always_returns_same}
-pub use Rattle.std.proofs.lemmas.Grind.{common_steps}
+pub use Rattle.std.proofs.lemmas.Grind.{common_steps, take_at_read}
 pub use Rattle.std.proofs.lemmas.Int.{ints}
 pub use Rattle.std.proofs.lemmas.Int.Digits.{all_below_base_digits_of, digits_of_step, first_digits_of}
 pub use Rattle.std.proofs.lemmas.Int.Digits.{number_digits_of}
@@ -22,6 +22,7 @@ pub use Rattle.std.proofs.lemmas.Map.Text.{is_eq-slice_cmp}
 pub use Rattle.std.proofs.lemmas.Option.{none-some}
 pub use Rattle.std.proofs.lemmas.Result.{err_from_is_err_and}
 pub use Rattle.std.proofs.lemmas.Slice.Eq.{bytes_eq-Decides}
+pub use Rattle.std.specs.Borrow.{Bor}
 pub use Rattle.std.specs.Char.{is_ascii_digit}
 pub use Rattle.std.specs.Cmp.Lexicographic.{nat_list_cmp_total, slice_cmp}
 pub use Rattle.std.specs.FinMap.{nat_cmp-IsAntisymmetric, slice_cmp-IsAntisymmetric}
@@ -38,17 +39,21 @@ pub use Rattle.tor_bencode.specs.Data.{pair, string}
 pub use Rattle.tor_bencode.specs.Fault.{Begins, BeginsWithDigit, HasBadLength, IsBadInteger, IsBadKey, IsBadValue}
 pub use Rattle.tor_bencode.specs.Fault.{IsCutInteger, IsCutString, IsFaultAt, IsFaultIn, IsOutOfOrder, IsTooLarge}
 pub use Rattle.tor_bencode.specs.Fault.{IsTrailing, Runs, at_key, at_value, in_list, in_pair, is_integer_byte, last_key}
+pub use Rattle.tor_bencode.specs.Fault.{may_take_memory}
 pub use Rattle.tor_bencode.specs.Find.{keys_in, value_in, value_of}
 pub use Rattle.tor_bencode.specs.Lawful.{AreRising, HasRisingKeys, IsLawful, IsLawfulWithin, ItemsAreLawfulWithin}
 pub use Rattle.tor_bencode.specs.Lawful.{PairsAreLawfulWithin, PairsHaveRisingKeys}
 pub use Rattle.tor_bencode.specs.Span.{IsSpelledAt, IsTree, span_in, span_of}
 pub use Rattle.tor_bencode.specs.Spelling.{items_spelling, pairs_spelling, signed_base_ten, spelling, string_spelling}
 unfoldable pub use Rattle.tor_bencode.specs.Spelling.{base_ten}
+pub use Rattle.tor_bencode.specs.RefView.{items_view as ref_items_view, pairs_view as ref_pairs_view, view as ref_view}
 pub use Rattle.tor_bencode.specs.View.{items_view, pairs_view, view}
 pub use Rattle.tor_bencode.specs.declared.fault.Fault.{Fault}
 pub use Rattle.tor_bencode.specs.declared.fault.Fault.TheVariants.{BadByte, BadInteger, BadLength, IntegerRange}
 pub use Rattle.tor_bencode.specs.declared.fault.Fault.TheVariants.{KeyNotBytes, KeyOrder, TooDeep, Trailing, Truncated}
 pub use Rattle.tor_bencode.specs.declared.item.Item.{Dict, Int, Item, List as ListItem, the_lemmas}
+pub use Rattle.tor_bencode.specs.declared.item_ref.ItemRef.{Dict as RefDict, Int as RefInt, ItemRef, List as RefList}
+pub use Rattle.tor_bencode.specs.declared.item_ref.ItemRef.{the_lemmas as ref_lemmas}
 pub use Rattle.tor_bencode.specs.declared.stop.Stop.{Stop}
 pub use Rattle.tor_bencode.specs.steps.Reading.{Reading, Stops, follows, in_range, integer_after, is_positive}
 pub use Rattle.tor_bencode.specs.steps.Reading.{is_shortest, items_at, last_of, negative_of, number_after, opened}

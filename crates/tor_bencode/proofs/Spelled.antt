@@ -2,7 +2,7 @@
 use Rattle.tor_bencode.proofs.Names.{◌≤◌, ◌≡◌, ◌≢◌, ℕ, ◌<◌, List, [], ◌∷◌, ◌++◌, length, get_or, true, sym, ap, subst}
 use Rattle.tor_bencode.proofs.Names.{append_assoc, arith, is_ascii_digit, list_all, and_parts, false≢true}
 use Rattle.tor_bencode.proofs.Names.{length-append, Data, integer, string, list, dictionary, is_shortest, base_ten}
-use Rattle.tor_bencode.proofs.Names.{spelling, string_spelling}
+use Rattle.tor_bencode.proofs.Names.{spelling, string_spelling, may_take_memory, append-nil, refl, false, ℤ}
 use Rattle.tor_bencode.proofs.Numerals.{digit_from_range, digit_range, all_digits-base_ten, is_shortest-base_ten}
 
 -- the bytes begin with a digit
@@ -57,3 +57,17 @@ shorter-string s bytes rest is =
 -- one more pair in front
 pub pair_spelled : (key value pairs rest : List ℕ) → (key ++ value ++ pairs) ++ rest ≡ key ++ (value ++ (pairs ++ rest))
 pair_spelled key value pairs rest = simp append_assoc
+
+digit_takes : (bytes : List ℕ) → StartsWithDigit bytes → may_take_memory bytes ≡ true
+digit_takes [] h = absurd (omega (arith, h.some))
+digit_takes (c ∷ rest) h = rw h.digit refl
+
+-- what is no integer takes memory
+pub takes_memory : (bytes : List ℕ) (d : Data) → bytes ≡ spelling d → ((n : ℤ) → d ≡ integer n → false ≡ true)
+    → may_take_memory bytes ≡ true
+takes_memory bytes (integer n) is other = absurd (false≢true (other n refl))
+takes_memory bytes (string s) is other =
+    subst (λ bs. may_take_memory bs ≡ true) (sym is)
+    (digit_takes (string_spelling s) (subst StartsWithDigit (append-nil (string_spelling s)) (string-starts s [])))
+takes_memory bytes (list items) is other = subst (λ bs. may_take_memory bs ≡ true) (sym is) refl
+takes_memory bytes (dictionary pairs) is other = subst (λ bs. may_take_memory bs ≡ true) (sym is) refl

@@ -4,6 +4,7 @@ pub mod Spelling
 pub mod Lawful
 pub mod Find
 pub mod View
+pub mod RefView
 pub mod Fault
 pub mod Span
 pub mod steps

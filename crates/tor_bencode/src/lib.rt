@@ -10,10 +10,12 @@
 //! ```
 //!
 //! - [`Item`] (`item.rt`): a bencode value, which owns its bytes.
+//! - [`ItemRef`] (`item_ref.rt`): one whose bytes are those that were read, and the values of its keys; [`lend`]
+//!   (`owned.rt`): that of an item.
 //! - [`Tree`] (`tree.rt`): an item that may stand in a torrent: keys rise, nesting has an end.
 //! - [`encode`] (`write.rt`): the spelling of a tree.
-//! - [`decode`] (`read.rt`): the tree of a spelling, or the first fault of the bytes.
-//! - [`find`] and [`find_in_order`] (`lookup.rt`): the value of a key; [`find_index_in_order`]: its index too.
+//! - [`decode`] and [`decode_ref`] (`read.rt`): the tree of a spelling, or the first fault of the bytes.
+//! - [`find`] (`lookup.rt`): the value of a key.
 //! - `span` (`value_span.rt`): where the value of a key is spelled.
 //! - [`BenError`] (`error.rt`), [`Fault`] (`fault.rt`): what these refuse.
 //! - [`laws`] (`laws.rt`): laws over the definitions of `specs/`.
@@ -24,9 +26,11 @@
 mod error;
 mod fault;
 mod item;
+mod item_ref;
 pub mod laws;
 mod lookup;
 mod order;
+mod owned;
 mod read;
 mod stop;
 mod token;
@@ -40,8 +44,10 @@ pub const MAX_NESTING: usize = 100;
 pub use error::BenError;
 pub use fault::Fault;
 pub use item::Item;
-pub use lookup::{count_keys, find, find_in_order, find_index_in_order};
-pub use read::decode;
+pub use item_ref::ItemRef;
+pub use lookup::find;
+pub use owned::lend;
+pub use read::{decode, decode_ref};
 pub use tree::Tree;
 pub use value_span::span;
 pub use write::encode;

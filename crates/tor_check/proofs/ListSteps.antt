@@ -1,6 +1,6 @@
 -- One item of a list decides for all of them.
 use Rattle.tor_check.proofs.Names.{◌≡◌, ℕ, ◌<◌, true, false, Bool, List, [], ◌∷◌, ◌+◌, length, map, take}
-use Rattle.tor_check.proofs.Names.{slice_index_or, refl, list_all, list_any, Data, view, Item, list_all_at}
+use Rattle.tor_check.proofs.Names.{slice_index_or, refl, list_all, list_any, Data, view, ItemRef, list_all_at}
 use Rattle.tor_check.proofs.Names.{list_all_more, list_all-map, list_any_at, list_any_more}
 
 pub any_mapped : {X Y : Type 0} (p : Y → Bool) (f : X → Y) (xs : List X)
@@ -8,17 +8,17 @@ pub any_mapped : {X Y : Type 0} (p : Y → Bool) (f : X → Y) (xs : List X)
 any_mapped p f [] = refl
 any_mapped p f (x ∷ xs) = rw (any_mapped p f xs) refl
 
-pub not_all : (p : Data → Bool) (items : List Item) (i : ℕ) (d : Item) → i < length items
+pub not_all : (p : Data → Bool) (items : List ItemRef) (i : ℕ) (d : ItemRef) → i < length items
     → p (view (slice_index_or items i d)) ≡ false → list_all p (map view items) ≡ false
 not_all p items i d within fails =
     rw (list_all-map p view items) (list_all_at (λ item. p (view item)) items i d within fails)
 
-pub some_one : (p : Data → Bool) (items : List Item) (i : ℕ) (d : Item) → i < length items
+pub some_one : (p : Data → Bool) (items : List ItemRef) (i : ℕ) (d : ItemRef) → i < length items
     → p (view (slice_index_or items i d)) ≡ true → list_any p (map view items) ≡ true
 some_one p items i d within passes =
     rw (any_mapped p view items) (list_any_at (λ item. p (view item)) items i d within passes)
 
-pub all_more : (p : Data → Bool) (items : List Item) (i : ℕ) (d : Item) → i < length items
+pub all_more : (p : Data → Bool) (items : List ItemRef) (i : ℕ) (d : ItemRef) → i < length items
     → list_all p (map view (take i items)) ≡ true → p (view (slice_index_or items i d)) ≡ true
     → list_all p (map view (take (i + 1) items)) ≡ true
 all_more p items i d within before passes =
@@ -31,7 +31,7 @@ all_more p items i d within before passes =
       passes,
     ) refl
 
-pub none_more : (p : Data → Bool) (items : List Item) (i : ℕ) (d : Item) → i < length items
+pub none_more : (p : Data → Bool) (items : List ItemRef) (i : ℕ) (d : ItemRef) → i < length items
     → list_any p (map view (take i items)) ≡ false → p (view (slice_index_or items i d)) ≡ false
     → list_any p (map view (take (i + 1) items)) ≡ false
 none_more p items i d within before fails =

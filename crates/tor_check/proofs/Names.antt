@@ -32,8 +32,9 @@ pub use Rattle.tor_bencode.specs.Data.{Data, dictionary, list, no_pairs}
 pub use Rattle.tor_bencode.specs.Find.{keys_in, value_of}
 pub use Rattle.tor_bencode.specs.Lawful.{HasRisingKeys, IsLawful}
 pub use Rattle.tor_bencode.specs.Spelling.{spelling}
-pub use Rattle.tor_bencode.specs.View.{items_of, items_view, view}
-pub use Rattle.tor_bencode.specs.declared.item.Item.{Item}
+pub use Rattle.tor_bencode.specs.RefView.{items_view, view}
+pub use Rattle.tor_bencode.specs.View.{items_of}
+pub use Rattle.tor_bencode.specs.declared.item_ref.ItemRef.{ItemRef}
 pub use Rattle.tor_check.specs.PieceProofs.{IsPieceProof, piece_refusal}
 pub use Rattle.tor_check.specs.Refusals.{of_list_error, of_tree_fault, refusal_for}
 pub use Rattle.tor_check.specs.Valid.{IsRefused, IsRefusedFor}

@@ -1,6 +1,6 @@
 //! Whether the two sides of a hybrid agree, judged: its files, where they begin, their letters.
 ghost use Rattle.std.specs.Prelude.{◌≡◌, ◌≤◌, ◌||◌, [], All, None, IfErr, OnOk, sum_by};
-ghost use Rattle.tor_bencode.specs.View.{view};
+ghost use Rattle.tor_bencode.specs.RefView.{view};
 ghost use Rattle.tor_check.specs.steps.Judged.{Names, first_of_alignment};
 ghost use Rattle.tor_check.specs.steps.Listed.{files_from, size_of_listed};
 ghost use Rattle.tor_check.specs.steps.Sides.{AreSidesOf, first_of_both};
@@ -17,7 +17,7 @@ use crate::refusal::Refusal;
 use crate::sides::Sides;
 
 /// Whether the sides of a hybrid agree: V22, V23 and V25.
-pub fn judge_alignment(head: &CommonKeys<'_>, sides: &Sides) -> Result<(), Refusal>
+pub fn judge_alignment(head: &CommonKeys<'_, '_>, sides: &Sides) -> Result<(), Refusal>
     requires kind { head.now.kind ≡ kind_of (view head.now.info.now) }
     requires piece_length { head.now.piece_length ≡ piece_length_of (view head.now.info.now) }
     requires some { (1 ≤ head.now.piece_length) × (head.now.piece_length ≤ max_piece_length) }

@@ -2,7 +2,7 @@
 ghost use Rattle.std.specs.Prelude.{◌≡◌, [], true, None, IfOk, OnErr, codes, unwrap_or, if◌then◌else◌};
 ghost use Rattle.tor_bencode.specs.Lawful.{HasRisingKeys, IsLawful};
 ghost use Rattle.tor_bencode.specs.Span.{span_of};
-ghost use Rattle.tor_bencode.specs.View.{view};
+ghost use Rattle.tor_bencode.specs.RefView.{view};
 ghost use Rattle.tor_check.specs.steps.Judged.{IsHeadOf};
 ghost use Rattle.tor_check.specs.steps.Sides.{AreSidesOf, first_of_both};
 ghost use Rattle.tor_spec.specs.valid.Conditions.{refusal_of};
@@ -18,13 +18,13 @@ use crate::sides::Sides;
 use crate::torrent::{Torrent, ViewFile};
 use crate::views::{entries_of, pieces_of_tree, take_letters, views_of_list, views_of_tree};
 use std::alloc::{AllocError, Global};
-use tor_bencode::Item;
+use tor_bencode::ItemRef;
 
 /// What the torrent describes.
 pub fn torrent_of(
     alloc: Global,
-    root: &Item,
-    head: &CommonKeys<'_>,
+    root: &ItemRef<'_>,
+    head: &CommonKeys<'_, '_>,
     sides: Sides,
     info_span: (usize, usize),
 ) -> Result<Torrent, AllocError>
@@ -54,7 +54,7 @@ pub fn torrent_of(
 }
 
 /// How many pieces it has: those of the files one by one, or of the joined list.
-fn piece_count(root: &Item, head: &CommonKeys<'_>, sides: &Sides) -> u64
+fn piece_count(root: &ItemRef<'_>, head: &CommonKeys<'_, '_>, sides: &Sides) -> u64
     requires head { IsHeadOf (view root.now) head.now }
     requires sides { AreSidesOf (info_of (view root.now)) sides.now }
     requires judged { first_of_both (info_of (view root.now)) ≡ None }
@@ -71,7 +71,7 @@ fn piece_count(root: &Item, head: &CommonKeys<'_>, sides: &Sides) -> u64
 }
 
 /// The joined SHA-1 of each piece of the v1 side; no byte without that side.
-fn pieces_of(alloc: Global, head: &CommonKeys<'_>) -> Result<Vec<u8>, AllocError>
+fn pieces_of(alloc: Global, head: &CommonKeys<'_, '_>) -> Result<Vec<u8>, AllocError>
     requires { head.now.kind ≡ kind_of (view head.now.info.now) }
     ensures pieces { IfOk result (λ pieces. pieces.items ≡ (if has_v1 (kind_of (view head.now.info.now))
         then text_of (part (codes "pieces") (view head.now.info.now)) else [])) }
@@ -89,8 +89,8 @@ fn pieces_of(alloc: Global, head: &CommonKeys<'_>) -> Result<Vec<u8>, AllocError
 /// The files of the tree, with the letters of both sides, or, without a tree, those of the list.
 fn files_of(
     alloc: Global,
-    root: &Item,
-    head: &CommonKeys<'_>,
+    root: &ItemRef<'_>,
+    head: &CommonKeys<'_, '_>,
     sides: Sides,
 ) -> Result<Vec<ViewFile>, AllocError>
     requires keys { HasRisingKeys (view root.now) }
@@ -99,7 +99,7 @@ fn files_of(
     ensures { IfOk result (λ files. files.items ≡ files_of (view root.now)) }
 {
     if !head.kind.has_v2() {
-        return views_of_list(alloc, &sides.list.files);
+        return views_of_list(alloc, sides.list.files);
     }
     let layers = layers_of(root, head.piece_length);
     let mut files = sides.files;

@@ -1,6 +1,6 @@
 //! The root of a torrent, and the keys of `info` that all kinds have.
 ghost use Rattle.std.specs.Prelude.{◌≡◌, ◌⊎◌, ◌<◌, true, false, None, Err, IfErr, IfOk, IfSome, MatchOption, OnOk};
-ghost use Rattle.tor_bencode.specs.View.{view};
+ghost use Rattle.tor_bencode.specs.RefView.{view};
 ghost use Rattle.tor_check.specs.steps.Judged.{IsFirst, IsHeadOf, conditions_before_memory, head_conditions, first_in};
 ghost use Rattle.tor_spec.specs.valid.Heads.{info_shape, length_and_files, meta_version, name, piece_length};
 ghost use Rattle.tor_spec.specs.valid.Parts.{info_of, is_private, kind_of, name_of, piece_length_of};
@@ -9,14 +9,14 @@ ghost use Rattle.tor_check.specs.declared.refusal.Refusal.TheVariants as refusal
 use crate::parts::{integer, is_dictionary, is_number, is_there, text};
 use crate::refusal::Refusal;
 use std::alloc::Global;
-use tor_bencode::{Item, find};
+use tor_bencode::ItemRef;
 use tor_merkle::{MAX_PIECE_LENGTH, is_piece_length};
 use tor_tree::{Kind, Name, NameError};
 
 /// What the keys say that all kinds have.
 #[derive(Drop)]
-pub struct CommonKeys<'a> {
-    pub info: &'a Item,
+pub struct CommonKeys<'t, 'a> {
+    pub info: &'t ItemRef<'a>,
     pub kind: Kind,
     pub name: Name,
     /// In bytes.
@@ -25,7 +25,10 @@ pub struct CommonKeys<'a> {
 }
 
 /// The head of a torrent; or the first of V2 to V7.
-pub fn read_head<'a>(alloc: Global, root: &'a Item) -> Result<CommonKeys<'a>, Refusal>
+pub fn read_head<'t, 'a>(
+    alloc: Global,
+    root: &'t ItemRef<'a>,
+) -> Result<CommonKeys<'t, 'a>, Refusal>
     ensures read { IfOk result (IsHeadOf (view root.now)) }
     ensures accepted { OnOk result (first_in head_conditions (view root.now) ≡ None) }
     ensures refused { IfErr result (IsFirst (first_in head_conditions (view root.now))) }
@@ -58,25 +61,25 @@ pub fn read_head<'a>(alloc: Global, root: &'a Item) -> Result<CommonKeys<'a>, Re
 }
 
 /// The dictionary `info`.
-fn info_of(root: &Item) -> Option<&Item>
+fn info_of<'t, 'a>(root: &'t ItemRef<'a>) -> Option<&'t ItemRef<'a>>
     ensures { MatchOption result (info_shape (view root.now) ≡ true)
         (λ info. (info_shape (view root.now) ≡ false) × (view info.now ≡ info_of (view root.now))) }
 {
-    match find(root, b"info") {
+    match root.get(b"info") {
         Some(info) if is_dictionary(info) => Some(info),
         _ => None,
     }
 }
 
 /// Whether `meta version` is there and is not 2.
-fn has_other_version(info: &Item) -> bool
+fn has_other_version(info: &ItemRef<'_>) -> bool
     ensures { result ≡ meta_version (view info.now) }
 {
     is_there(info, b"meta version") && !is_number(info, b"meta version", 2)
 }
 
 /// Which sides the torrent has.
-fn kind_of(info: &Item) -> Kind
+fn kind_of(info: &ItemRef<'_>) -> Kind
     ensures { result ≡ kind_of (view info.now) }
 {
     if !is_there(info, b"meta version") {
@@ -90,7 +93,7 @@ fn kind_of(info: &Item) -> Kind
 }
 
 /// The piece length, if a torrent of the kind can have it.
-fn piece_length_of(info: &Item, kind: Kind) -> Option<u64>
+fn piece_length_of(info: &ItemRef<'_>, kind: Kind) -> Option<u64>
     requires { kind ≡ kind_of (view info.now) }
     ensures { MatchOption result (piece_length (view info.now) ≡ true)
         (λ n. (piece_length (view info.now) ≡ false) × (n ≡ piece_length_of (view info.now)) × (0 < n)) }
@@ -103,7 +106,7 @@ fn piece_length_of(info: &Item, kind: Kind) -> Option<u64>
 }
 
 /// The name that the torrent suggests.
-fn name_of(alloc: Global, info: &Item) -> Result<Name, Refusal>
+fn name_of(alloc: Global, info: &ItemRef<'_>) -> Result<Name, Refusal>
     ensures made { IfOk result (λ text. (name (view info.now) ≡ false) × (text ≡ name_of (view info.now))) }
     ensures refused { IfErr result
         (λ refusal. ((refusal ≡ refusals.Memory) × (name (view info.now) ≡ false))

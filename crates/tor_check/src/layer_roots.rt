@@ -19,7 +19,11 @@ use tor_merkle::{layer_root, piece_level};
 use tor_tree::TreeFile;
 
 /// Whether a layer has not the root of its file. Each layer is one hash for each piece.
-pub fn has_other(alloc: Global, layers: &Layers<'_>, files: &[TreeFile]) -> Result<bool, AllocError>
+pub fn has_other(
+    alloc: Global,
+    layers: &Layers<'_, '_>,
+    files: &[TreeFile],
+) -> Result<bool, AllocError>
     requires piece_length { IsPieceLength layers.now.piece_length }
     requires shaped { list_any (is_misshaped layers.now.piece_length (seen layers.now)) files.now ≡ false }
     requires small { All (λ file. file.length ≤ MAX_LENGTH) files.now }
@@ -38,7 +42,7 @@ pub fn has_other(alloc: Global, layers: &Layers<'_>, files: &[TreeFile]) -> Resu
 
 /// Whether the layer of a file has not its root. `judged` has a mark for each root that was found to be that of its
 /// layer.
-fn has_other_root(layers: &Layers<'_>, file: &TreeFile, judged: &mut [bool]) -> bool
+fn has_other_root(layers: &Layers<'_, '_>, file: &TreeFile, judged: &mut [bool]) -> bool
     requires piece_length { IsPieceLength layers.now.piece_length }
     requires shaped { is_misshaped layers.now.piece_length (seen layers.now) file.now ≡ false }
     requires small { file.now.length ≤ MAX_LENGTH }

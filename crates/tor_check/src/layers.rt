@@ -2,7 +2,7 @@
 ghost use Rattle.std.specs.Prelude.{◌≡◌, ◌<◌, true, None, IfErr, OnOk, option_map};
 ghost use Rattle.std.specs.List.{list_any};
 ghost use Rattle.tor_bencode.specs.Lawful.{HasRisingKeys};
-ghost use Rattle.tor_bencode.specs.View.{view};
+ghost use Rattle.tor_bencode.specs.RefView.{view};
 ghost use Rattle.tor_check.specs.steps.Judged.{IsFirst, IsHeadOf, first_in, layer_conditions};
 ghost use Rattle.tor_check.specs.steps.Layers.{seen};
 ghost use Rattle.tor_check.specs.steps.Sides.{AreSidesOf, first_of_both};
@@ -18,14 +18,14 @@ use crate::layer_texts::{layer_text, text_of_layer};
 use crate::refusal::Refusal;
 use crate::sides::Sides;
 use std::alloc::Global;
-use tor_bencode::Item;
+use tor_bencode::ItemRef;
 use tor_tree::TreeFile;
 
 /// The piece layers of a v2 side: V18 to V21.
 pub fn judge_layers(
     alloc: Global,
-    root: &Item,
-    head: &CommonKeys<'_>,
+    root: &ItemRef<'_>,
+    head: &CommonKeys<'_, '_>,
     sides: &Sides,
 ) -> Result<(), Refusal>
     requires keys { HasRisingKeys (view root.now) }
@@ -56,12 +56,12 @@ pub fn judge_layers(
 }
 
 /// Whether layers are needed and absent, or no dictionary.
-fn lacks_layers(layers: &Layers<'_>, files: &[TreeFile]) -> bool
+fn lacks_layers(layers: &Layers<'_, '_>, files: &[TreeFile]) -> bool
     ensures { result ≡ lacks_layers layers.now.piece_length files.now
         (option_map (λ item. view item.now) layers.now.item) }
 {
     match layers.item {
-        Some(Item::Dict(_)) => false,
+        Some(ItemRef::Dict(_)) => false,
         Some(_) => true,
         None => has_long(layers.piece_length, files),
     }
@@ -75,7 +75,7 @@ fn has_long(piece_length: u64, files: &[TreeFile]) -> bool
 }
 
 /// Whether a file that is to have a layer has none.
-fn lacks_a_layer(layers: &Layers<'_>, files: &[TreeFile]) -> bool
+fn lacks_a_layer(layers: &Layers<'_, '_>, files: &[TreeFile]) -> bool
     ensures { result ≡ list_any (lacks_layer layers.now.piece_length (seen layers.now)) files.now }
 {
     'files: for file in files {
@@ -86,14 +86,14 @@ fn lacks_a_layer(layers: &Layers<'_>, files: &[TreeFile]) -> bool
     false
 }
 
-fn lacks_layer(layers: &Layers<'_>, file: &TreeFile) -> bool
+fn lacks_layer(layers: &Layers<'_, '_>, file: &TreeFile) -> bool
     ensures { result ≡ lacks_layer layers.now.piece_length (seen layers.now) file.now }
 {
     file.length > layers.piece_length && layer_text(layers, file).is_none()
 }
 
 /// Whether a layer is not 32 bytes for each piece of its file.
-fn has_misshaped(layers: &Layers<'_>, files: &[TreeFile]) -> bool
+fn has_misshaped(layers: &Layers<'_, '_>, files: &[TreeFile]) -> bool
     requires { 0 < layers.now.piece_length }
     ensures { result ≡ list_any (is_misshaped layers.now.piece_length (seen layers.now)) files.now }
 {
@@ -105,7 +105,7 @@ fn has_misshaped(layers: &Layers<'_>, files: &[TreeFile]) -> bool
     false
 }
 
-fn is_misshaped(layers: &Layers<'_>, file: &TreeFile) -> bool
+fn is_misshaped(layers: &Layers<'_, '_>, file: &TreeFile) -> bool
     requires { 0 < layers.now.piece_length }
     ensures { result ≡ is_misshaped layers.now.piece_length (seen layers.now) file.now }
 {

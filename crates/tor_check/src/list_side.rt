@@ -5,7 +5,7 @@ ghost use Rattle.std.specs.Prelude.{int_lt, pos, unsigned_abs, sum_by, codes, na
 ghost use Rattle.std.specs.Int.{div_ceil};
 ghost use Rattle.std.specs.List.{list_any};
 ghost use Rattle.tor_bencode.specs.Find.{value_of};
-ghost use Rattle.tor_bencode.specs.View.{view};
+ghost use Rattle.tor_bencode.specs.RefView.{view};
 ghost use Rattle.tor_check.specs.Refusals.{of_list_error};
 ghost use Rattle.tor_check.specs.steps.Judged.{IsFirst};
 ghost use Rattle.tor_check.specs.steps.Listed.{all_listed, first_after_sizes, first_of_list, size_of_listed};
@@ -24,7 +24,7 @@ use crate::marks::read_marks;
 use crate::parts::text;
 use crate::refusal::Refusal;
 use std::alloc::{AllocError, Global};
-use tor_bencode::{Item, find};
+use tor_bencode::ItemRef;
 use tor_merkle::MAX_LENGTH;
 use tor_tree::{FileList, FilePath, MAX_TOTAL, Name};
 
@@ -38,7 +38,7 @@ pub struct ListSide {
 }
 
 /// The v1 side, or its first fault.
-pub fn read_list(alloc: Global, head: &CommonKeys<'_>) -> Result<ListSide, Refusal>
+pub fn read_list(alloc: Global, head: &CommonKeys<'_, '_>) -> Result<ListSide, Refusal>
     requires name { head.now.name ≡ name_of (view head.now.info.now) }
     requires piece_length { head.now.piece_length ≡ piece_length_of (view head.now.info.now) }
     requires some { 0 < head.now.piece_length }
@@ -63,7 +63,7 @@ pub fn read_list(alloc: Global, head: &CommonKeys<'_>) -> Result<ListSide, Refus
 }
 
 /// The bytes of all files of a side, padding among them, if their paths and lengths have no fault.
-fn judge_sizes(alloc: Global, info: &Item, files: &[Listed]) -> Result<u64, Refusal>
+fn judge_sizes(alloc: Global, info: &ItemRef<'_>, files: &[Listed]) -> Result<u64, Refusal>
     requires read { files.now ≡ all_listed (view info.now) }
     requires shaped { list_shape (view info.now) ≡ false }
     ensures size { IfOk result (λ size. size ≡ side_size (view info.now)) }
@@ -89,7 +89,7 @@ fn judge_sizes(alloc: Global, info: &Item, files: &[Listed]) -> Result<u64, Refu
 }
 
 /// The files that `files` lists, or the one of `length`.
-fn read_files(alloc: Global, info: &Item, name: &Name) -> Result<Vec<Listed>, Refusal>
+fn read_files(alloc: Global, info: &ItemRef<'_>, name: &Name) -> Result<Vec<Listed>, Refusal>
     requires { name.now ≡ name_of (view info.now) }
     ensures read { IfOk result (λ files. files.items ≡ all_listed (view info.now)) }
     ensures shaped { OnOk result (list_shape (view info.now) ≡ false) }
@@ -97,8 +97,8 @@ fn read_files(alloc: Global, info: &Item, name: &Name) -> Result<Vec<Listed>, Re
         ((refusal ≡ FileShape) × (list_shape (view info.now) ≡ true)) ⊎ (refusal ≡ Memory)) }
     ensures memory { result ≡ Err Memory → takes_files (view info.now) ≡ true }
 {
-    match find(info, b"files") {
-        Some(Item::List(entries)) => read_list_of(alloc, entries),
+    match info.get(b"files") {
+        Some(ItemRef::List(entries)) => read_list_of(alloc, entries),
         Some(_) => Err(Refusal::FileShape),
         None => {
             let Some(marks) = read_marks(info) else {
@@ -171,7 +171,7 @@ fn size_of(files: &[Listed]) -> Option<u64>
 }
 
 /// Whether `pieces` is not 20 bytes for each piece of so many bytes.
-fn lacks_sums(info: &Item, size: u64, piece_length: u64) -> bool
+fn lacks_sums(info: &ItemRef<'_>, size: u64, piece_length: u64) -> bool
     requires { 0 < piece_length }
     ensures { result ≡ is_no_sums (div_ceil size piece_length) (as_string (value_of (codes "pieces") (view info.now))) }
 {

@@ -26,7 +26,7 @@ pub fn no_layers(alloc: Global, count: usize) -> Result<Vec<Option<ArcSlice<Hash
 /// index of its root among the keys of the layers.
 pub fn layer_of(
     alloc: Global,
-    layers: &Layers<'_>,
+    layers: &Layers<'_, '_>,
     file: &TreeFile,
     shared: &mut [Option<ArcSlice<Hash>>],
 ) -> Result<Option<ArcSlice<Hash>>, AllocError>

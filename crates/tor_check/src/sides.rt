@@ -1,6 +1,6 @@
 //! The sides of a torrent, judged together: one condition is looked for in both before the next.
 ghost use Rattle.std.specs.Prelude.{◌≡◌, ◌<◌, true, None, Err, IfErr, IfOk, OnOk, Option};
-ghost use Rattle.tor_bencode.specs.View.{view};
+ghost use Rattle.tor_bencode.specs.RefView.{view};
 ghost use Rattle.tor_check.specs.steps.Judged.{IsFirst};
 ghost use Rattle.tor_check.specs.steps.Sides.{AreSidesOf, earlier_refusal, earliest, files_if, first_of_both, list_if};
 ghost use Rattle.tor_check.specs.steps.Sides.{listed_if, takes_sides, takes_tree, tree_if};
@@ -30,7 +30,7 @@ pub struct Sides {
 }
 
 /// The sides of a torrent, or the first fault of them.
-pub fn read_sides(alloc: Global, head: &CommonKeys<'_>) -> Result<Sides, Refusal>
+pub fn read_sides(alloc: Global, head: &CommonKeys<'_, '_>) -> Result<Sides, Refusal>
     requires kind { head.now.kind ≡ kind_of (view head.now.info.now) }
     requires name { head.now.name ≡ name_of (view head.now.info.now) }
     requires piece_length { head.now.piece_length ≡ piece_length_of (view head.now.info.now) }
@@ -50,7 +50,7 @@ pub fn read_sides(alloc: Global, head: &CommonKeys<'_>) -> Result<Sides, Refusal
 }
 
 /// The v1 side, if it is there.
-fn list_of(alloc: Global, head: &CommonKeys<'_>) -> Result<ListSide, Refusal>
+fn list_of(alloc: Global, head: &CommonKeys<'_, '_>) -> Result<ListSide, Refusal>
     requires kind { head.now.kind ≡ kind_of (view head.now.info.now) }
     requires name { head.now.name ≡ name_of (view head.now.info.now) }
     requires piece_length { head.now.piece_length ≡ piece_length_of (view head.now.info.now) }
@@ -72,7 +72,7 @@ fn list_of(alloc: Global, head: &CommonKeys<'_>) -> Result<ListSide, Refusal>
 }
 
 /// The files of the v2 side, if it is there.
-fn tree_of(alloc: Global, head: &CommonKeys<'_>) -> Result<Vec<TreeFile>, Refusal>
+fn tree_of(alloc: Global, head: &CommonKeys<'_, '_>) -> Result<Vec<TreeFile>, Refusal>
     requires kind { head.now.kind ≡ kind_of (view head.now.info.now) }
     ensures files { IfOk result (λ files. files.items ≡ files_if (view head.now.info.now)) }
     ensures accepted { OnOk result (tree_if (view head.now.info.now) ≡ None) }

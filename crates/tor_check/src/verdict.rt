@@ -3,7 +3,7 @@ ghost use Rattle.std.specs.Prelude.{◌≡◌, true, None, Err, IfErr, IfOk, IsO
 ghost use Rattle.tor_bencode.specs.Fault.{may_take_memory};
 ghost use Rattle.tor_bencode.specs.Lawful.{IsLawful};
 ghost use Rattle.tor_bencode.specs.Span.{span_of};
-ghost use Rattle.tor_bencode.specs.View.{view};
+ghost use Rattle.tor_bencode.specs.RefView.{view};
 ghost use Rattle.tor_check.specs.steps.Judged.{IsFirst, conditions_before_memory, first_in};
 ghost use Rattle.tor_check.specs.Valid.{IsRefusedFor, IsTold};
 ghost use Rattle.tor_check.specs.declared.refusal.Refusal.TheVariants.{Memory};
@@ -18,7 +18,7 @@ use crate::refusal::Refusal;
 use crate::sides::read_sides;
 use crate::torrent::Torrent;
 use std::alloc::Global;
-use tor_bencode::{Item, decode, span};
+use tor_bencode::{ItemRef, decode_ref, span};
 
 /// What the torrent describes that the bytes are; or why they are none, the least number whose condition holds.
 pub fn validate(alloc: Global, bytes: &[u8]) -> Result<Torrent, Refusal>
@@ -27,12 +27,12 @@ pub fn validate(alloc: Global, bytes: &[u8]) -> Result<Torrent, Refusal>
     ensures refused { IfErr result (IsRefusedFor bytes.now) }
     ensures memory { result ≡ Err Memory → may_take_memory bytes.now ≡ true }
 {
-    let tree = match decode(alloc, bytes) {
-        Ok(tree) => tree,
+    let root = match decode_ref(alloc, bytes) {
+        Ok(root) => root,
         Err(fault) => return Err(Refusal::from(fault)),
     };
     let info_span = span(bytes, b"info").unwrap_or((0, 0));
-    match judge(alloc, tree.item(), info_span) {
+    match judge(alloc, &root, info_span) {
         Ok(torrent) => Ok(torrent),
         Err(refusal) => Err(refusal),
     }
@@ -40,7 +40,7 @@ pub fn validate(alloc: Global, bytes: &[u8]) -> Result<Torrent, Refusal>
 
 /// What the torrent describes that has this tree, in whose spelling `info` begins and ends here; or why there is none,
 /// the least number whose condition holds.
-fn judge(alloc: Global, root: &Item, info_span: (usize, usize)) -> Result<Torrent, Refusal>
+fn judge(alloc: Global, root: &ItemRef<'_>, info_span: (usize, usize)) -> Result<Torrent, Refusal>
     requires lawful { IsLawful (view root.now) }
     requires span { info_span ≡ unwrap_or (span_of (codes "info") (view root.now)) (0, 0) }
     ensures described { IfOk result (λ torrent. torrent ≡ view_of (view root.now)) }

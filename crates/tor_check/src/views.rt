@@ -12,6 +12,7 @@ ghost use Rattle.tor_check.specs.steps.Listed.{file_of_listed};
 use crate::layer_keys::Layers;
 use crate::layer_texts::count_layers;
 use crate::listed::Listed;
+use crate::marks::Marks;
 use crate::shared_layers::{layer_of, no_layers};
 use crate::torrent::ViewFile;
 use std::alloc::{AllocError, Global};
@@ -51,7 +52,7 @@ fn add_letters(file: &mut TreeFile, listed: &Listed)
 /// The files of a tree, each with its layer.
 pub fn views_of_tree(
     alloc: Global,
-    layers: &Layers<'_>,
+    layers: &Layers<'_, '_>,
     files: Vec<TreeFile>,
 ) -> Result<Vec<ViewFile>, AllocError>
     ensures { IfOk result (λ views. views.items ≡ map (viewed layers.now.piece_length (seen layers.now)) files.items) }
@@ -67,34 +68,33 @@ pub fn views_of_tree(
 }
 
 /// The files of the v1 side, without padding.
-pub fn views_of_list(alloc: Global, listed: &[Listed]) -> Result<Vec<ViewFile>, AllocError>
-    ensures { IfOk result (λ views. views.items ≡ map file_of_list (without_padding (files_from listed.now))) }
+pub fn views_of_list(alloc: Global, listed: Vec<Listed>) -> Result<Vec<ViewFile>, AllocError>
+    ensures { IfOk result (λ views. views.items ≡ map file_of_list (without_padding (files_from listed.items))) }
 {
     let mut views = Vec::with_capacity(alloc, listed.len())?;
-    'listed: for file in listed {
-        if let Some(path) = &file.path {
-            views.push(view_of(alloc, path, file)?)?;
+    'listed: for Listed { path, marks } in listed {
+        if let Some(path) = path {
+            views.push(view_of(path, marks))?;
         }
     }
     Ok(views)
 }
 
 /// A file of the v1 side.
-fn view_of(alloc: Global, path: &FilePath, file: &Listed) -> Result<ViewFile, AllocError>
-    requires { file.now.path ≡ Some path.now }
-    ensures { IfOk result (λ view. view ≡ file_of_list (file_of_listed file.now)) }
+fn view_of(path: FilePath, marks: Marks) -> ViewFile
+    ensures { result ≡ file_of_list (file_of_listed (record { path = Some path; marks = marks })) }
 {
-    Ok(ViewFile {
+    ViewFile {
         file: TreeFile {
-            path: path.copy(alloc)?,
-            length: file.marks.length.unsigned_abs(),
+            path,
+            length: marks.length.unsigned_abs(),
             root: None,
-            has_attr: file.marks.has_attr,
-            exec: file.marks.exec,
-            hidden: file.marks.hidden,
+            has_attr: marks.has_attr,
+            exec: marks.exec,
+            hidden: marks.hidden,
         },
         layer: None,
-    })
+    }
 }
 
 /// The entries of the v1 side, padding among them.

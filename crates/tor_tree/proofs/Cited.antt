@@ -33,6 +33,7 @@ pub use Rattle.std.specs.List.{All, AllAdjacentBelow, AllByRecursion, AllZip, Is
 pub use Rattle.std.specs.List.{list_any, range_with_len, starts_with, zip}
 pub use Rattle.std.specs.List.Sorted.{IsPermutation, IsSortedByKey}
 unfoldable pub use Rattle.std.specs.List.Sorted.{IsStrictlySortedBy}
+pub use Rattle.std.specs.Borrow.{Bor}
 pub use Rattle.std.specs.Option.{option_or}
 pub use Rattle.std.specs.Ordering.{eq_by_cmp, is_eq, is_lt, ordering_reverse, ordering_then}
 pub use Rattle.std.specs.Prelude.{IsSome, int_lt, if◌then◌else◌, ◌↔◌}
@@ -41,8 +42,10 @@ pub use Rattle.tor_bencode.specs.Data.{Data, Pairs, dictionary, integer, keys_of
 pub use Rattle.tor_bencode.specs.Find.{value_of}
 pub use Rattle.tor_bencode.specs.Lawful.{AreRising, HasRisingKeys, HasSmallIntegers, IsLawfulWithin}
 pub use Rattle.tor_bencode.specs.Lawful.{PairsHaveRisingKeys, PairsHaveSmallIntegers, depth, pairs_depth}
+pub use Rattle.tor_bencode.specs.RefView.{pairs_view as ref_pairs_view, view as ref_view}
 pub use Rattle.tor_bencode.specs.View.{pairs_view, view}
 pub use Rattle.tor_bencode.specs.declared.item.Item.{Dict, Item, the_lemmas}
+pub use Rattle.tor_bencode.specs.declared.item_ref.ItemRef.{Dict as RefDict, ItemRef, the_lemmas as ref_lemmas}
 pub use Rattle.tor_merkle.specs.declared.TheConstants.{MAX_LENGTH}
 pub use Rattle.tor_tree.specs.FileList.{IsFileList, IsInPathOrder, is_inside, lengths_fault, lengths_of}
 pub use Rattle.tor_tree.specs.FileList.{lengths_too_large, list_fault, paths_fault, paths_nest, paths_of, paths_repeat}

@@ -3,6 +3,7 @@ pub mod FileTrees
 pub mod FilesBelow
 pub mod Groups
 pub mod Inside
+pub mod ItemMemory
 pub mod LawfulTree
 pub mod Lengths
 pub mod LetteredLists

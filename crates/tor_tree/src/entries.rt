@@ -1,7 +1,7 @@
 //! The files that a file tree describes (BEP 52, "file tree"), before they are judged.
 ghost use Rattle.std.specs.Prelude.{◌≡◌, ◌⊎◌, ◌++◌, true, false, map, Err, IfErr, OnOk, [], ◌∷◌};
 ghost use Rattle.tor_bencode.specs.Data.{pair, no_pairs};
-ghost use Rattle.tor_bencode.specs.View.{view};
+ghost use Rattle.tor_bencode.specs.RefView.{view};
 ghost use Rattle.tor_tree.specs.FileTree.{are_entries, entries_in, entries_of, is_dictionary, is_folder};
 ghost use Rattle.tor_tree.specs.FileTree.{takes_memory, takes_memory_in};
 ghost use Rattle.tor_tree.specs.Properties.{are_properties};
@@ -13,7 +13,7 @@ use crate::paths::FilePath;
 use crate::properties::{Properties, read_properties};
 use crate::tree_file::TreeFault;
 use std::alloc::Global;
-use tor_bencode::Item;
+use tor_bencode::ItemRef;
 
 /// A file as its tree describes it, before it is judged; it has no path if the tree itself has the empty key.
 #[derive(Drop)]
@@ -27,7 +27,7 @@ pub struct DescribedFile {
 #[tactic(auto, using(crate::proofs::WalkSteps::walking))]
 pub fn add_folder(
     alloc: Global,
-    item: &Item,
+    item: &ItemRef<'_>,
     folder: &mut Vec<Name>,
     entries: &mut Vec<DescribedFile>,
 ) -> Result<(), TreeFault>
@@ -40,7 +40,7 @@ pub fn add_folder(
     ensures no_dictionary { is_dictionary (view item.now) ≡ false → result ≡ Err Shape }
     ensures memory { result ≡ Err Memory → takes_memory (view item.now) ≡ true }
 {
-    let Item::Dict(pairs) = item else {
+    let ItemRef::Dict(pairs) = item else {
         return Err(TreeFault::Shape);
     };
     for (key, value) in pairs {
@@ -55,7 +55,7 @@ pub fn add_folder(
 fn add_pair(
     alloc: Global,
     key: &[u8],
-    value: &Item,
+    value: &ItemRef<'_>,
     folder: &mut Vec<Name>,
     entries: &mut Vec<DescribedFile>,
 ) -> Result<(), TreeFault>
@@ -80,7 +80,7 @@ fn add_pair(
 /// Adds the file with these properties.
 fn add_file(
     alloc: Global,
-    properties: &Item,
+    properties: &ItemRef<'_>,
     folder: &[Name],
     entries: &mut Vec<DescribedFile>,
 ) -> Result<(), TreeFault>

@@ -16,8 +16,8 @@
 //! - [`Attr`] (`attr.rt`): the letters of a file that a torrent is made with.
 //! - [`PathList`] (`path_lists.rt`): paths in order, each with its index among those
 //!   that were handed in, if lengths are still to be asked.
-//! - [`from_item`] (`read_tree.rt`): the files that a tree describes, each a [`TreeFile`] (`tree_file.rt`); they are in
-//!   order.
+//! - [`from_item`] (`read_item.rt`), [`from_item_ref`] (`read_tree.rt`): the files that a tree describes, each a
+//!   [`TreeFile`] (`tree_file.rt`); they are in order.
 //! - [`has_attr`], [`letters_of`] (`properties.rt`): whether a file has `attr`, and its letters.
 //! - [`to_item`] (`write_tree.rt`): the tidy tree of a list, its letters among it; there is one at most.
 //! - [`Kind`] (`kinds.rt`): which sides a torrent has.
@@ -38,6 +38,7 @@ mod path_faults;
 mod path_lists;
 mod paths;
 mod properties;
+mod read_item;
 mod read_tree;
 mod tree_file;
 mod write_tree;
@@ -49,6 +50,7 @@ pub use names::{Name, NameError, copy_names};
 pub use path_lists::PathList;
 pub use paths::{FilePath, MAX_NAMES, copy_paths};
 pub use properties::{has_attr, letters_of};
-pub use read_tree::from_item;
+pub use read_item::from_item;
+pub use read_tree::from_item_ref;
 pub use tree_file::{TreeFault, TreeFile};
 pub use write_tree::to_item;

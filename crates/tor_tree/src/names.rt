@@ -1,5 +1,5 @@
 //! Names of files and folders: text that is one step of a path.
-ghost use Rattle.std.specs.Prelude.{◌≡◌, ◌⊎◌, All, Some, None, IfOk, IfErr, OnOk};
+ghost use Rattle.std.specs.Prelude.{◌≡◌, ◌⊎◌, All, Some, None, IfOk, IfErr, OnOk, is_none};
 ghost use Rattle.std.specs.Str.{IsUtf8, is_utf8};
 ghost use Rattle.std.proofs.Common.{refl};
 ghost use Rattle.std.specs.Cmp.{partial_equiv_from_equiv};
@@ -189,6 +189,13 @@ fn fault_of(bytes: &[u8]) -> Option<NameError>
         _ if !is_utf8(bytes) => Some(NameError::NotUtf8),
         _ => None,
     }
+}
+
+/// Whether these bytes are a name.
+pub(crate) fn is_name(bytes: &[u8]) -> bool
+    ensures { result ≡ is_none (name_fault bytes.now) }
+{
+    fault_of(bytes).is_none()
 }
 
 fn is_utf8(bytes: &[u8]) -> bool

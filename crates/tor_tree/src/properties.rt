@@ -3,11 +3,11 @@ ghost use Rattle.std.specs.Prelude.{◌≡◌, codes, FitsSigned, IfSome};
 ghost use Rattle.std.specs.Int.{w64};
 ghost use Rattle.std.specs.Option.{option_copied};
 ghost use Rattle.tor_bencode.specs.Find.{value_of};
-ghost use Rattle.tor_bencode.specs.View.{view};
+ghost use Rattle.tor_bencode.specs.RefView.{view};
 ghost use Rattle.tor_tree.specs.Properties.{as_integer, has_attr, letters_of};
 ghost use Rattle.tor_tree.specs.steps.Reading.{facts_of, hash_of};
 
-use tor_bencode::{Item, find};
+use tor_bencode::ItemRef;
 use tor_merkle::Hash;
 
 /// What the properties of a file say, before they are judged.
@@ -22,7 +22,7 @@ pub struct Properties {
 }
 
 /// None if the item is no dictionary with an integer `length`, or has an `attr` that is no byte string.
-pub fn read_properties(item: &Item) -> Option<Properties>
+pub fn read_properties(item: &ItemRef<'_>) -> Option<Properties>
     ensures { result ≡ facts_of (view item.now) }
 {
     let length = length_of(item)?;
@@ -38,40 +38,40 @@ pub fn read_properties(item: &Item) -> Option<Properties>
 }
 
 /// The `length`, if it is an integer.
-fn length_of(item: &Item) -> Option<i64>
+fn length_of(item: &ItemRef<'_>) -> Option<i64>
     ensures value { result ≡ as_integer (value_of (codes "length") (view item.now)) }
     ensures fits { IfSome result (FitsSigned w64) }
 {
-    match find(item, b"length")? {
-        Item::Int(length) => Some(*length),
+    match item.get(b"length")? {
+        ItemRef::Int(length) => Some(*length),
         _ => None,
     }
 }
 
 /// Whether `attr` is there.
-pub fn has_attr(item: &Item) -> bool
+pub fn has_attr(item: &ItemRef<'_>) -> bool
     ensures { result ≡ has_attr (view item.now) }
 {
-    find(item, b"attr").is_some()
+    item.get(b"attr").is_some()
 }
 
 /// The letters of `attr` (BEP 47), none of them if it is absent; None if it is no byte string.
-pub fn letters_of(item: &Item) -> Option<&[u8]>
+pub fn letters_of<'a>(item: &ItemRef<'a>) -> Option<&'a [u8]>
     ensures { option_copied result ≡ letters_of (view item.now) }
 {
-    match find(item, b"attr") {
+    match item.get(b"attr") {
         None => Some(b""),
-        Some(Item::Bytes(letters)) => Some(letters.as_slice()),
+        Some(ItemRef::Bytes(letters)) => Some(letters),
         Some(_) => None,
     }
 }
 
 /// The `pieces root`, if it is a byte string of 32 bytes.
-fn hash_of(item: &Item) -> Option<Hash>
+fn hash_of(item: &ItemRef<'_>) -> Option<Hash>
     ensures { result ≡ hash_of (view item.now) }
 {
-    let Item::Bytes(root) = find(item, b"pieces root")? else {
+    let ItemRef::Bytes(root) = item.get(b"pieces root")? else {
         return None;
     };
-    Hash::try_from(root.as_slice()).ok()
+    Hash::try_from(*root).ok()
 }

@@ -1,9 +1,9 @@
-//! Reading a file tree (BEP 52, "file tree").
+//! Reading a file tree (BEP 52, "file tree"), of an item that borrows its bytes.
 ghost use Rattle.std.specs.Prelude.{◌≡◌, ◌⊎◌, Some, None, unsigned_abs, int_lt, pos, map, true, false, Err, IfOk};
 ghost use Rattle.std.specs.Prelude.{IfErr};
 ghost use Rattle.std.specs.Prelude.{OnOk, All, IsSome, IsOkUnless};
 ghost use Rattle.std.specs.List.{list_any};
-ghost use Rattle.tor_bencode.specs.View.{view};
+ghost use Rattle.tor_bencode.specs.RefView.{view};
 ghost use Rattle.tor_tree.specs.FileList.{lengths_too_large};
 ghost use Rattle.tor_tree.specs.FileTree.{files_of_tree, is_dictionary, takes_memory, tree_fault};
 ghost use Rattle.tor_tree.specs.steps.Reading.{entries_fault, file_from, misses_root};
@@ -14,10 +14,10 @@ use crate::lists::with_length;
 use crate::mixed::mixes;
 use crate::tree_file::{TreeFault, TreeFile};
 use std::alloc::Global;
-use tor_bencode::Item;
+use tor_bencode::ItemRef;
 
 /// The files that a file tree describes, in the order of its keys (BEP 52, "file tree").
-pub fn from_item(alloc: Global, item: &Item) -> Result<Vec<TreeFile>, TreeFault>
+pub fn from_item_ref(alloc: Global, item: &ItemRef<'_>) -> Result<Vec<TreeFile>, TreeFault>
     ensures files { IfOk result (λ files. files.items ≡ files_of_tree (view item.now)) }
     ensures accepted { OnOk result (tree_fault (view item.now) ≡ None) }
     ensures refused { IfErr result (λ fault. (tree_fault (view item.now) ≡ Some fault) ⊎ (fault ≡ Memory)) }

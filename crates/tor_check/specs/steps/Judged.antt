@@ -1,7 +1,7 @@
 -- How a refusal tells a condition, and what is known of a head that has none.
 use Rattle.std.specs.Prelude.{◌≡◌, ◌⊎◌, ◌<◌, List, [], ◌∷◌, find, option_map, Option, None, Some, if◌then◌else◌}
 use Rattle.tor_bencode.specs.Data.{Data}
-use Rattle.tor_bencode.specs.View.{view}
+use Rattle.tor_bencode.specs.RefView.{view}
 use Rattle.tor_spec.specs.valid.Conditions.{Condition, holds, of_both}
 use Rattle.tor_spec.specs.valid.SidesAgree.{alignment, attr_differs, files_differ}
 use Rattle.tor_spec.specs.valid.Conditions as conditions

@@ -6,7 +6,7 @@ use Rattle.std.specs.declared.alloc.Global.{Global}
 use Rattle.std.specs.declared.sync.ArcSlice.{ArcSlice}
 use Rattle.tor_bencode.specs.Data.{Data, dictionary, no_pairs}
 use Rattle.tor_bencode.specs.Find.{keys_in, value_of}
-use Rattle.tor_bencode.specs.View.{view}
+use Rattle.tor_bencode.specs.RefView.{view}
 use Rattle.tor_check.specs.declared.layer_keys.Layers.{Layers}
 use Rattle.tor_merkle.specs.Layer.{piece_level}
 use Rattle.tor_merkle.specs.Stack.{padded_root}

@@ -1,5 +1,5 @@
 use Rattle.tor_bencode.proofs.Names.{◌≡◌, ◌+◌, ◌*◌, ◌≤◌, ℕ, length, None, option_map, value_at, items_at, pairs_at}
-use Rattle.tor_bencode.proofs.Names.{items_view, pairs_view}
+use Rattle.tor_bencode.proofs.Names.{ref_items_view, ref_pairs_view}
 use Rattle.tor_bencode.proofs.Loops.{with_items, with_pairs}
 use Rattle.tor_bencode.proofs.read.+read.Given as goal
 
@@ -16,7 +16,7 @@ decreases-dictionary l = 2 * l.room + 1
 abbrev pub invariant-list-items : goal.invariant-list-items
 invariant-list-items l =
     (fuel : ℕ) × (length l.rest ≤ fuel) × (length l.rest ≤ length l.bytes)
-    × (with_items (items_view l.items.items) (items_at (value_at l.room) fuel l.rest)
+    × (with_items (ref_items_view l.items.items) (items_at (value_at l.room) fuel l.rest)
     ≡ items_at (value_at l.room) (length l.bytes) l.bytes)
 
 abbrev pub decreases-list-items : goal.decreases-list-items
@@ -25,7 +25,7 @@ decreases-list-items l = length l.rest
 abbrev pub invariant-dictionary-pairs : goal.invariant-dictionary-pairs
 invariant-dictionary-pairs l =
     (fuel : ℕ) × (length l.rest ≤ fuel) × (length l.rest ≤ length l.bytes)
-    × (with_pairs (pairs_view l.pairs.items) (pairs_at (value_at l.room) fuel
+    × (with_pairs (ref_pairs_view l.pairs.items) (pairs_at (value_at l.room) fuel
     (option_map (λ key. key.now) l.last) l.rest) ≡ pairs_at (value_at l.room) (length l.bytes) None l.bytes)
 
 abbrev pub decreases-dictionary-pairs : goal.decreases-dictionary-pairs

@@ -1,5 +1,5 @@
-use Rattle.tor_tree.proofs.Cited.{◌≡◌, ◌∙◌, true, false, ap, subst, inl, inr, ⊎_elim, arith, Err, err_from_is_err_and}
-use Rattle.tor_tree.proofs.Cited.{pair, no_pairs, view, are_entries, takes_memory_in, Memory}
+use Rattle.tor_tree.proofs.Cited.{◌≡◌, ◌∙◌, ap, inl, inr, ⊎_elim, arith, Err, err_from_is_err_and}
+use Rattle.tor_tree.proofs.Cited.{ref_view, Memory}
 use Rattle.tor_tree.proofs.WalkSteps.{added_to_end, entries_go_on, first_shaped, not_shaped, shape_goes_on}
 use Rattle.tor_tree.proofs.WalkSteps.{shaped_takes, shaped_to_end, taken_here}
 use Rattle.tor_tree.proofs.entries.+walk.Goals as goal
@@ -11,13 +11,7 @@ add_folder-returns-in_err-add_pair-clause-refused t c =
     let unshaped = not_shaped c.args.item.now c.in-Dict.pairs c.in-Dict.is c.deref-key-items.result.now
     c.deref-key-items.ensures.value c.loop-key.key-index c.loop-key.invariant.2 c.loop-key-item.result
     (omega arith) c.loop-key-item.is in
-    let same : c.deref.result.now ≡ c.loop-key-item.result.0.items = c.deref.ensures.value in
-    rw (p.1, p.2) (⊎_elim
-    (λ h. inl (
-      h.0,
-      unshaped (subst (λ key. are_entries (pair key (view c.loop-key-item.result.1) no_pairs) ≡ false)
-          same h.1),
-    )) (λ m. inr m) refused)
+    rw (p.1, p.2) (⊎_elim (λ h. inl (h.0, unshaped h.1)) (λ m. inr m) refused)
 
 pub add_folder-returns-clause-shaped : goal.add_folder-returns-clause-shaped
 add_folder-returns-clause-shaped t c =
@@ -40,8 +34,7 @@ add_folder-returns-in_err-add_pair-clause-memory t c = λ is.
     let taken = c.in_err-add_pair.ensures.memory (ap Err refused) in
     taken_here c.args.item.now c.in-Dict.pairs c.in-Dict.is c.deref-key-items.result.now
     c.deref-key-items.ensures.value c.loop-key.key-index c.loop-key.invariant.2 item (omega arith) c.loop-key-item.is
-    (subst (λ key. takes_memory_in (pair key (view item.1) no_pairs) ≡ true) c.deref.ensures.value taken)
-    c.loop-key.invariant.3
+    taken c.loop-key.invariant.3
 
 pub add_folder-loop-key-preserved : goal.add_folder-loop-key-preserved
 add_folder-loop-key-preserved t c =
@@ -49,11 +42,9 @@ add_folder-loop-key-preserved t c =
     let items = c.deref-key-items.result.now in
     let i = c.loop-key.key-index in
     let folder = c.args.folder.now.items in
-    let key : c.deref.result.now ≡ item.0.items = c.deref.ensures.value in
     let stays = c.loop-key.invariant.0 in
-    let shaped : are_entries (pair item.0.items (view item.1) no_pairs) ≡ true =
-    subst (λ key. are_entries (pair key (view item.1) no_pairs) ≡ true) key c.in_ok-add_pair.ensures.shaped in
-    let added = rw (key, stays) at c.in_ok-add_pair.ensures.added in (
+    let shaped = c.in_ok-add_pair.ensures.shaped in
+    let added = rw stays at c.in_ok-add_pair.ensures.added in (
       c.in_ok-add_pair.ensures.folder_stays ∙ stays,
       entries_go_on c.args.item.now c.in-Dict.pairs c.in-Dict.is items c.deref-key-items.ensures.value i
           c.loop-key.invariant.2 folder item c.loop-key.entries.items _ _ (omega arith) c.loop-key-item.is added
@@ -62,5 +53,5 @@ add_folder-loop-key-preserved t c =
           c.loop-key.invariant.2 item (omega arith) c.loop-key-item.is shaped,
       λ _. first_shaped c.args.item.now c.in-Dict.pairs c.in-Dict.is items c.deref-key-items.ensures.value i
           c.loop-key.invariant.2 item (omega arith) c.loop-key-item.is
-          (shaped_takes item.0.items (view item.1) shaped) c.loop-key.invariant.3,
+          (shaped_takes item.0.now (ref_view item.1) shaped) c.loop-key.invariant.3,
     )

@@ -3,7 +3,7 @@ use Rattle.tor_tree.proofs.Cited.{length-drop, both_ways, cases_lt, drop_all, ta
 use Rattle.tor_tree.proofs.Cited.{IsRoot, has_name_at, files_below}
 use Rattle.tor_tree.proofs.FilesBelow.{all_to, faultless_named, first_has, followed_by, followed_by-none}
 use Rattle.tor_tree.proofs.FilesBelow.{followed_by-push, group_made, length-files_below, next_made, to_end}
-use Rattle.tor_tree.proofs.WalkSteps.{view_dictionary}
+use Rattle.tor_tree.proofs.ItemMemory.{dictionary_of_item}
 use Rattle.tor_tree.proofs.write_tree.+folder.Goals as goal
 
 pub folder-loop-start-preserved : goal.folder-loop-start-preserved
@@ -57,4 +57,4 @@ next_pair-returns-clause-made t c =
     c.run_len-count.result some c.requires.some c.requires.letters_each c.requires.one_each
     c.run_len-count.ensures.same c.run_len-count.ensures.ends
     (pairs_view c.in_ok-inside.inside.items) c.in_ok-inside.ensures.made in
-    rw (c.in_ok-from_slice.ensures.items, c.as_bytes.ensures.value, view_dictionary) made
+    rw (c.in_ok-from_slice.ensures.items, c.as_bytes.ensures.value, dictionary_of_item) made

@@ -3,7 +3,7 @@ use Rattle.tor_tree.proofs.FileTrees.{made_file_tree}
 use Rattle.tor_tree.proofs.ListFaults.{small_files}
 use Rattle.tor_tree.proofs.Readable.{all_named, readable}
 use Rattle.tor_tree.proofs.TreeOfFiles.{below_none, one_root_each}
-use Rattle.tor_tree.proofs.WalkSteps.{view_dictionary}
+use Rattle.tor_tree.proofs.ItemMemory.{dictionary_of_item}
 use Rattle.tor_tree.proofs.write_tree.to_item.Goals as goal
 
 pub folder-requires-clause-small : goal.folder-requires-clause-small
@@ -18,7 +18,7 @@ pub returns-clause-made : goal.returns-clause-made
 returns-clause-made c =
     let made = rw (c.files.ensures.value, c.attrs.ensures.value) at c.in_ok-folder.ensures.made in
     let list = c.args.list.now in
-    rw (view_dictionary c.in_ok-folder.field-0, made, below_none list.files list.attrs c.args.roots.now) refl
+    rw (dictionary_of_item c.in_ok-folder.field-0, made, below_none list.files list.attrs c.args.roots.now) refl
 
 pub returns-clause-tidy : goal.returns-clause-tidy
 returns-clause-tidy c =
