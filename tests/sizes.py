@@ -418,8 +418,7 @@ def test_tail_over_8_mib(program, folder):
 
 
 def test_pieces_of_1_mib(program, folder):
-    """Eight of them are as much as a worker holds. Files of whole pieces and others, a piece a unit: as v1 each unit
-    has its sums at once, in a hybrid seven wait for the eighth."""
+    """Files of whole pieces and others, a piece a unit: seven wait for the eighth."""
     rng = random.Random(13)
     mib = 1 << 20
     place, torrent = folder / 'files', folder / 'torrent'

@@ -9,10 +9,12 @@ use std::alloc::{AllocError, Global};
 use tor_lane::Chunk;
 use tor_merkle::MAX_LENGTH;
 use tor_sums::{ContentHasher, Hashed, OwingPieces, UnitSums};
-use tor_v1::MAX_PIECE_IN_RUN;
 
 // So many pieces are hashed side by side.
 const PIECES_AT_ONCE: u64 = 8;
+
+// Longer pieces do not wait: at the end one thread hashes what waits of all workers.
+const MAX_PIECE_THAT_WAITS: u64 = 1 << 20;
 
 /// What a chunk sums up to, as it does if it is alone in its file: a chunk does not tell.
 pub(crate) fn sum_chunk(
@@ -72,7 +74,7 @@ pub(crate) fn waits(chunking: Chunking, chunk: &Chunk) -> bool
 {
     let piece_length = chunking.piece_length;
     let length = chunk.bytes.len() as u64;
-    if !chunking.kind.has_v1() || piece_length > MAX_PIECE_IN_RUN {
+    if !chunking.kind.has_v1() || piece_length > MAX_PIECE_THAT_WAITS {
         return false;
     }
     if length > MAX_LENGTH || chunk.zeros > piece_length {

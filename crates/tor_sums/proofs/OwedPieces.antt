@@ -1,6 +1,6 @@
 -- What is owed to units in memory, and one unit more.
-use Rattle.std.proofs.Common.{◌≡◌, ◌+◌, ◌*◌, ◌%◌, ◌<◌, ℕ, List, [], ◌++◌, length, ap, ap₂, sym, subst, ◌∙◌, append_assoc}
-use Rattle.std.proofs.Common.{arith, length-append}
+use Rattle.std.proofs.Common.{◌≡◌, ◌+◌, ◌*◌, ◌%◌, ◌<◌, ℕ, List, [], ◌++◌, length, ap, ap₂, sym, subst, ◌∙◌}
+use Rattle.std.proofs.Common.{append_assoc, arith, length-append}
 use Rattle.tor_tree.specs.declared.kinds.Kind.TheVariants.{V1}
 use Rattle.tor_v1.specs.Piece.{piece_sums, zeros}
 use Rattle.tor_v1.proofs.ProvedLaws.{length_of_zeros, piece_sums-nil, sums_of_joined}

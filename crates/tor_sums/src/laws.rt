@@ -13,5 +13,5 @@ pub fn limit_of_workers()
 pub fn limits_of_buffers()
     ensures asked { LEAST_ASKED ≡ 2 ^ 16 }
     ensures together { BATCH ≡ 2 ^ 20 }
-    ensures held { MOST_HELD ≡ 2 ^ 23 + 2 ^ 16 }
+    ensures held { MOST_HELD ≡ 2 ^ 27 + 2 ^ 16 }
 {}

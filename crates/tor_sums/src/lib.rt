@@ -11,13 +11,14 @@
 //!   [`Owed`], `paying.rt`). Those of units in memory wait in [`OwingPieces`] (`owing_pieces.rt`).
 //! - [`read_tree`] (`unit_hash.rt`) reads a unit and gives its tree, whatever files it is of. `reading.rt` has one
 //!   part read of the source ([`FileBytes`], `file_bytes.rt`), and [`WorkerSums`] (`worker.rt`) holds what was read and
-//!   not hashed (`room.rt`), and the hashes of what came before.
+//!   not hashed (`room.rt`; less for a few pieces, `few_pieces.rt`), and the hashes of what came before.
 //! - [`ContentHasher`] (`hasher.rt`): what a content hashes to, while its bytes come ([`Hashed`]).
 //! - [`EngineError`] (`errors.rt`): why files are not hashed. [`How`] (`how.rt`): by how many workers they are.
 //! - [`laws`] (`laws.rt`): the limits of workers and of their buffers.
 #![tactic(auto)]
 
 mod errors;
+mod few_pieces;
 mod file_bytes;
 mod hasher;
 mod how;

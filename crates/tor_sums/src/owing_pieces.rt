@@ -23,7 +23,7 @@ impl OwingPieces {
         requires { IsV1PieceLength piece_length }
         ensures { IfOk result (OwesPieces piece_length []) }
     {
-        let sums = WorkerSums::of_kind(alloc, Kind::V1, piece_length)?;
+        let sums = WorkerSums::of_kind(alloc, Kind::V1, piece_length, 8 * piece_length)?;
         Ok(OwingPieces { sums })
     }
 
@@ -41,8 +41,8 @@ impl OwingPieces {
         requires whole { (length bytes.now + count) % piece_length ≡ 0 }
         ensures room { IfOk result (λ room.
             length room.items ≡ length (piece_sums piece_length (bytes.now ++ zeros count))) }
-        ensures owes { (owed : List ℕ) → OwesPieces piece_length owed self.old →
-            OnOk result (OwesPieces piece_length (owed ++ piece_sums piece_length (bytes.now ++ zeros count)) self.new) }
+        ensures owes { (owed : List ℕ) → OwesPieces piece_length owed self.old → OnOk result
+            (OwesPieces piece_length (owed ++ piece_sums piece_length (bytes.now ++ zeros count)) self.new) }
     {
         length_of_sums();
         self.sums.feed_pieces(bytes)?;

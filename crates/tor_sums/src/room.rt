@@ -26,7 +26,7 @@ const LEAST_ASKED: usize = 1 << 16;
 const BATCH: u64 = 1 << 20;
 
 /// A worker has room for at most so many bytes.
-const MOST_HELD: usize = (1 << 23) + LEAST_ASKED;
+const MOST_HELD: usize = (1 << 27) + LEAST_ASKED;
 
 /// Bytes that were read one after the other, and room for more behind them. Clauses speak of those that are held as
 /// `held_in`.
@@ -47,15 +47,20 @@ pub(crate) struct Room {
 impl Room {
     ghost use Rattle.tor_sums.specs.steps.Room.{HasRoom, IsFull, ReadsMore, batch_of, count_in, held_in, length_of};
 
-    /// Room for pieces of so many bytes. No byte is held.
-    pub(crate) fn new(alloc: Global, kind: Kind, piece_length: u64) -> Result<Room, AllocError>
+    /// Room for pieces of so many bytes, of contents of at least so many. No byte is held.
+    pub(crate) fn new(
+        alloc: Global,
+        kind: Kind,
+        piece_length: u64,
+        least: u64,
+    ) -> Result<Room, AllocError>
         requires { IsPlanPieceLength kind piece_length }
         ensures held { IfOk result (λ room. held_in room ≡ []) }
         ensures none { IfOk result (λ room. count_in room ≡ 0) }
-        ensures eight { has_v1 kind ≡ true → piece_length ≤ MAX_PIECE_IN_RUN →
+        ensures eight { has_v1 kind ≡ true → piece_length ≤ MAX_PIECE_IN_RUN → 8 * piece_length ≤ least →
             IfOk result (λ room. batch_of room % (8 * piece_length) ≡ 0) }
     {
-        let batch = batch_length(kind, piece_length);
+        let batch = batch_length(kind, piece_length, least);
         let bytes = zeros(alloc, batch + LEAST_ASKED)?;
         Ok(Room {
             bytes,
@@ -196,15 +201,16 @@ impl Room {
 }
 
 /// How many bytes are hashed together: about 1 MiB, and a multiple of eight pieces if version 1 has pieces that are
-/// hashed by eight.
-fn batch_length(kind: Kind, piece_length: u64) -> usize
+/// hashed by eight, and so many.
+fn batch_length(kind: Kind, piece_length: u64, least: u64) -> usize
     requires { IsPlanPieceLength kind piece_length }
     ensures least { BATCH ≤ result }
     ensures most { result + LEAST_ASKED ≤ MOST_HELD }
-    ensures eight { has_v1 kind ≡ true → piece_length ≤ MAX_PIECE_IN_RUN → result % (8 * piece_length) ≡ 0 }
+    ensures eight { has_v1 kind ≡ true → piece_length ≤ MAX_PIECE_IN_RUN → 8 * piece_length ≤ least →
+        result % (8 * piece_length) ≡ 0 }
 {
     let eight = 8 * piece_length;
-    if !kind.has_v1() || piece_length > MAX_PIECE_IN_RUN {
+    if !kind.has_v1() || piece_length > MAX_PIECE_IN_RUN || eight > least {
         BATCH as usize
     } else if eight < BATCH {
         BATCH.next_multiple_of(eight) as usize
@@ -245,8 +251,8 @@ fn copy_behind(held: usize, first: &[u8], bytes: &mut [u8])
     ensures front { take held bytes.new ≡ take held bytes.old }
     ensures copied { take (length first.now) (drop held bytes.new) ≡ first.now }
 {
-    let (_, spare) = bytes.split_at_mut(held);
-    let (buffer, _) = spare.split_at_mut(first.len());
+    let (_, room) = bytes.split_at_mut(held);
+    let (buffer, _) = room.split_at_mut(first.len());
     buffer.copy_from_slice(first);
 }
 

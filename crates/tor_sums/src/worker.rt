@@ -14,6 +14,7 @@ ghost use Rattle.tor_sums.specs.steps.ReadBytes.{IsFaultFree};
 ghost use Rattle.tor_sums.specs.steps.Room.{HasRoom, count_in, length_of};
 
 use crate::errors::EngineError;
+use crate::few_pieces::bytes_of_eight;
 use crate::file_bytes::FileBytes;
 use crate::hasher::ContentHasher;
 use crate::room::Room;
@@ -50,22 +51,24 @@ impl WorkerSums {
         ensures fresh { IfOk result (IsFresh plan.now []) }
         ensures none { IfOk result (λ sums. count_in (room_of sums) ≡ 0) }
     {
-        let sums = WorkerSums::of_kind(alloc, plan.kind(), plan.piece_length())?;
+        let least = bytes_of_eight(plan);
+        let sums = WorkerSums::of_kind(alloc, plan.kind(), plan.piece_length(), least)?;
         Ok(sums)
     }
 
-    /// Of no byte, of a kind and for pieces of so many bytes.
+    /// Of no byte, of a kind and for pieces of so many bytes, of contents of at least so many.
     pub(crate) fn of_kind(
         alloc: Global,
         kind: Kind,
         piece_length: u64,
+        least: u64,
     ) -> Result<WorkerSums, AllocError>
         requires { IsPlanPieceLength kind piece_length }
         ensures taken { IfOk result (HasTaken kind piece_length [] []) }
         ensures begun { IfOk result (λ sums. begun_of sums ≡ 0) }
         ensures none { IfOk result (λ sums. count_in (room_of sums) ≡ 0) }
     {
-        let room = Room::new(alloc, kind, piece_length)?;
+        let room = Room::new(alloc, kind, piece_length, least)?;
         Ok(WorkerSums {
             room,
             treed: 0,
@@ -237,7 +240,7 @@ impl WorkerSums {
     {
         self.make_room(bytes.len() as u64)?;
         let count = self.room.put(bytes);
-        self.treed = self.room.held();
+        self.treed += count;
         Ok(count)
     }
 

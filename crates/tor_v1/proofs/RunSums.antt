@@ -1,7 +1,7 @@
 -- Sums that are fed whole pieces at once: runs of eight, whose hashes are computed together, and zeros, of which one
 -- hash is all.
-use Rattle.std.proofs.Common.{◌≡◌, ℕ, zero, suc, ◌+◌, ◌*◌, ◌/◌, ◌%◌, ◌<◌, ◌≤◌, List, [], ◌++◌, map, length, get_or, take}
-use Rattle.std.proofs.Common.{drop, replicate}
+use Rattle.std.proofs.Common.{◌≡◌, ℕ, zero, suc, ◌+◌, ◌*◌, ◌/◌, ◌%◌, ◌<◌, ◌≤◌, List, [], ◌++◌, map, length, get_or}
+use Rattle.std.proofs.Common.{drop, replicate, take}
 use Rattle.std.proofs.Common.{arith, ap, ap₂, ◌∙◌, sym, subst, append-nil, length-append, vec_len, vec_capacity}
 use Rattle.std.proofs.Common.{add-zero, mul_comm}
 use Rattle.std.proofs.lemmas.List.{take_all, drop_all}

@@ -99,5 +99,5 @@ pub fn padding_fills_pieces()
 
 /// The most bytes of a piece that is hashed with seven others.
 pub fn limit_of_pieces_in_runs()
-    ensures { MAX_PIECE_IN_RUN ≡ 2 ^ 20 }
+    ensures { MAX_PIECE_IN_RUN ≡ 2 ^ 24 }
 {}

@@ -9,7 +9,7 @@ use sha1::DIGEST_LEN;
 use tor_hashes::piece_hashes;
 
 /// The most bytes of a piece that is hashed together with seven others, if they lie one after another.
-pub const MAX_PIECE_IN_RUN: u64 = 1 << 20;
+pub const MAX_PIECE_IN_RUN: u64 = 1 << 24;
 
 /// Whether pieces of so many bytes are taken in runs.
 pub(crate) fn has_runs(piece_length: u64) -> bool

@@ -3,12 +3,12 @@ use Rattle.std.specs.Prelude.{◌≡◌, ◌+◌, ◌%◌, ◌≤◌, ℕ, true,
 use Rattle.tor_lane.specs.declared.chunk.Chunk.{Chunk}
 use Rattle.tor_merkle.specs.declared.TheConstants.{MAX_LENGTH}
 use Rattle.tor_tree.specs.Kinds.{has_v1}
-use Rattle.tor_v1.specs.declared.runs.TheConstants.{MAX_PIECE_IN_RUN}
 use Rattle.tor_sums.specs.declared.owing_pieces.OwingPieces.{OwingPieces}
 use Rattle.tor_sums.specs.declared.unit_sums.UnitSums.{UnitSums}
 use Rattle.tor_sums.specs.steps.Each.{OweEach}
 use Rattle.tor_sums.specs.steps.Owing.{paid_one}
 use Rattle.tor_sums.specs.steps.OwingPieces.{OwesPieces}
+use Rattle.tor_streams.specs.declared.chunk_sums.TheConstants.{MAX_PIECE_THAT_WAITS}
 use Rattle.tor_streams.specs.declared.chunking.Chunking.{Chunking}
 use Rattle.tor_streams.specs.declared.owed_chunks.ChunkSums.{ChunkSums}
 use Rattle.tor_streams.specs.declared.owed_chunks.ChunkSums.TheVariants.{Owed, Whole}
@@ -18,7 +18,7 @@ use Rattle.tor_streams.specs.steps.Cuts.{facts_of, facts_of_chunk}
 pub record MayWait (chunking : Chunking) (chunk : Chunk) : Type 0 where
   pub summed : has_v1 chunking.kind ≡ true
   pub small : length chunk.bytes.items ≤ MAX_LENGTH
-  pub few : chunk.zeros ≤ MAX_PIECE_IN_RUN
+  pub few : chunk.zeros ≤ MAX_PIECE_THAT_WAITS
   pub whole : (length chunk.bytes.items + chunk.zeros) % chunking.piece_length ≡ 0
 
 -- once it has these sums of its pieces, for which it has room, it is what the chunk sums up to

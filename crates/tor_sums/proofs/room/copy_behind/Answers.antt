@@ -6,12 +6,12 @@ use Rattle.tor_sums.proofs.room.copy_behind.Goals as goal
 
 pub returns-clause-copied : goal.returns-clause-copied
 returns-clause-copied c =
-    let front = c.split_at_mut-spare.result.0.now in
+    let front = c.split_at_mut-room.result.0.now in
     let copied = c.copy_from_slice.new.self in
     let rest = c.split_at_mut-buffer.result.1.now in
     let n = length c.args.first.now in
     let same = c.copy_from_slice.ensures.after in
-    ap (λ k. take n (drop k (front ++ (copied ++ rest)))) (sym c.split_at_mut-spare.ensures.front_len)
+    ap (λ k. take n (drop k (front ++ (copied ++ rest)))) (sym c.split_at_mut-room.ensures.front_len)
     ∙ ap (take n) (drop-append_seam front (copied ++ rest))
     ∙ ap (λ xs. take n (xs ++ rest)) same
     ∙ take-append-le n c.args.first.now rest (omega arith)

@@ -13,8 +13,8 @@ chunks-preserved g c = (
       let mid : StreamWorker = record old { taker = c.take.new.self } in
       let new : StreamWorker = record c.add.new.self { give_back = c.give.new.self } in
       worker_more c.args.chunking feeder old mid new c.in-Some-take.chunk
-      (c.chunks.invariant.2 feeder is) c.take.ensures.lane c.in-Some-take.ensures.some refl refl refl c.add.ensures.taker
-      c.add.ensures.sums,
+      (c.chunks.invariant.2 feeder is) c.take.ensures.lane c.in-Some-take.ensures.some refl refl refl
+      c.add.ensures.taker c.add.ensures.sums,
 )
 
 pub returns-in-None-take : goal.returns-in-None-take

@@ -10,12 +10,14 @@ push_often-requires c = room_run c.args.count c.args.self.now _ c.requires.none 
 
 pub returns-clause-fed : goal.returns-clause-fed
 returns-clause-fed c = λ p before fed.
-    let some = c.args.self.now.allowed.0 in
-    adds_run c.args.count c.args.self.now p before fed _ _ c.requires.none
-    (length-zeros (c.args.count * c.args.self.now.piece_length)) refl c.requires.none refl
+    let old = c.args.self.now in
+    let count = c.args.count in
+    let some = old.allowed.0 in
+    adds_run count old p before fed _ _ c.requires.none (length-zeros (count * old.piece_length)) refl c.requires.none
+    refl
     (c.push_often.ensures.joined
-    ∙ ap (λ sum. c.args.self.now.sums.items ++ flat_map (λ x. x) (replicate c.args.count sum)) c.sum_of_zeros-sum.ensures.value
-    ∙ ap (λ xs. c.args.self.now.sums.items ++ xs) (sums_of_same c.args.self.now.piece_length (omega arith) c.args.count))
+    ∙ ap (λ sum. old.sums.items ++ flat_map (λ x. x) (replicate count sum)) c.sum_of_zeros-sum.ensures.value
+    ∙ ap (λ xs. old.sums.items ++ xs) (sums_of_same old.piece_length (omega arith) count))
 
 pub returns-clause-room : goal.returns-clause-room
 returns-clause-room c = λ later room.
