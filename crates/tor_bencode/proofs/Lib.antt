@@ -6,6 +6,7 @@ pub mod Searched
 pub mod Numerals
 pub mod Loops
 pub mod OwnedItems
+pub mod SpelledLengths
 pub mod Values
 pub mod Runs
 pub mod Strings

@@ -32,7 +32,7 @@ pub use Rattle.std.specs.Int.Digits.{AllBelowBase, digits_of, number_from_digits
 pub use Rattle.std.specs.List.{list_all, prefix_len, slice_get}
 pub use Rattle.std.specs.List.Sorted.{IsBinarySearchResult, IsSearchInRange, IsSortedBy}
 pub use Rattle.std.specs.Ordering.{is_eq, is_lt, nat_cmp, ordering_reverse}
-pub use Rattle.std.specs.Prelude.{FitsSigned, codes, decimal, nat_le, nat_lt}
+pub use Rattle.std.specs.Prelude.{FitsSigned, codes, decimal, min, nat_le, nat_lt}
 pub use Rattle.std.specs.Str.{bytes_eq}
 pub use Rattle.tor_bencode.specs.Data.{Data, Items, Pairs, dictionary, integer, item, keys_of, list, no_items, no_pairs}
 pub use Rattle.tor_bencode.specs.Data.{pair, string}

@@ -16,7 +16,7 @@
 //! - [`encode`] (`write.rt`): the spelling of a tree.
 //! - [`decode`] and [`decode_ref`] (`read.rt`): the tree of a spelling, or the first fault of the bytes.
 //! - [`find`] (`lookup.rt`): the value of a key.
-//! - `span` (`value_span.rt`): where the value of a key is spelled.
+//! - `span` (`value_span.rt`) and [`span_of_key`] (`spelled_span.rt`): where the value of a key is spelled.
 //! - [`BenError`] (`error.rt`), [`Fault`] (`fault.rt`): what these refuse.
 //! - [`laws`] (`laws.rt`): laws over the definitions of `specs/`.
 //!
@@ -32,6 +32,7 @@ mod lookup;
 mod order;
 mod owned;
 mod read;
+mod spelled_span;
 mod stop;
 mod token;
 mod tree;
@@ -48,6 +49,7 @@ pub use item_ref::ItemRef;
 pub use lookup::find;
 pub use owned::lend;
 pub use read::{decode, decode_ref};
+pub use spelled_span::span_of_key;
 pub use tree::Tree;
 pub use value_span::span;
 pub use write::encode;

@@ -18,7 +18,7 @@ use crate::refusal::Refusal;
 use crate::sides::read_sides;
 use crate::torrent::Torrent;
 use std::alloc::Global;
-use tor_bencode::{ItemRef, decode_ref, span};
+use tor_bencode::{ItemRef, decode_ref, span_of_key};
 
 /// What the torrent describes that the bytes are; or why they are none, the least number whose condition holds.
 pub fn validate(alloc: Global, bytes: &[u8]) -> Result<Torrent, Refusal>
@@ -31,7 +31,7 @@ pub fn validate(alloc: Global, bytes: &[u8]) -> Result<Torrent, Refusal>
         Ok(root) => root,
         Err(fault) => return Err(Refusal::from(fault)),
     };
-    let info_span = span(bytes, b"info").unwrap_or((0, 0));
+    let info_span = span_of_key(&root, b"info", bytes.len()).unwrap_or((0, 0));
     match judge(alloc, &root, info_span) {
         Ok(torrent) => Ok(torrent),
         Err(refusal) => Err(refusal),
