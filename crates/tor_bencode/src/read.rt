@@ -128,7 +128,7 @@ fn list<'a>(
             _ => {}
         }
         let (item, after) = value(alloc, rest, room)?;
-        add(&mut items, item)?;
+        add(&mut items, item, after)?;
         rest = after;
     }
 }
@@ -159,18 +159,19 @@ fn dictionary<'a>(
             return Err(Stop::At(Fault::KeyOrder, rest));
         }
         let (item, after) = value(alloc, after, room)?;
-        add(&mut pairs, (key, item))?;
+        add(&mut pairs, (key, item), after)?;
         last = Some(key);
         rest = after;
     }
 }
 
-/// Adds an item. The first takes room for two, since most lists and dictionaries of a torrent have no more.
-fn add<T: Drop>(items: &mut Vec<T>, item: T) -> Result<(), AllocError>
+/// Adds an item, after which these bytes come. The first takes room for itself if it is the last one, or else for two,
+/// since most lists and dictionaries of a torrent have no more.
+fn add<T: Drop>(items: &mut Vec<T>, item: T, after: &[u8]) -> Result<(), AllocError>
     ensures { OnOk result (items.new.items ≡ items.old.items ++ item ∷ []) }
 {
     if items.is_empty() {
-        items.reserve_exact(2)?;
+        items.reserve_exact(if after.starts_with(b"e") { 1 } else { 2 })?;
     }
     items.push(item)?;
     Ok(())

@@ -1,10 +1,9 @@
 //! Whether each piece layer has the root of its files (BEP 52, "piece layers"). A layer is hashed once, however many
 //! files have its root.
-ghost use Rattle.std.specs.Prelude.{◌≡◌, ◌≤◌, ◌<◌, ◌*◌, false, not, All, IfOk, length};
+ghost use Rattle.std.specs.Prelude.{◌≡◌, ◌≤◌, ◌<◌, ◌*◌, ℕ, Bool, false, not, Some, All, length, slice_get};
 ghost use Rattle.std.specs.Int.{div_ceil};
 ghost use Rattle.std.specs.List.{list_any};
 ghost use Rattle.std.specs.Str.{bytes_eq};
-ghost use Rattle.tor_bencode.specs.Find.{keys_in};
 ghost use Rattle.tor_check.specs.steps.Layers.{IsJudged, IsKept, seen};
 ghost use Rattle.tor_merkle.specs.Layer.{IsPieceLength, piece_level};
 ghost use Rattle.tor_merkle.specs.Stack.{padded_root};
@@ -13,31 +12,37 @@ ghost use Rattle.tor_merkle.specs.declared.TheConstants.{MAX_LENGTH};
 
 use crate::layer_keys::Layers;
 use crate::layer_texts::{count_layers, layer_at, root_of};
-use std::alloc::{AllocError, Global};
+use std::alloc::Global;
 use tor_merkle::laws::piece_roots_fit_a_layer;
 use tor_merkle::{layer_root, piece_level};
 use tor_tree::TreeFile;
 
 /// Whether a layer has not the root of its file. Each layer is one hash for each piece.
-pub fn has_other(
-    alloc: Global,
-    layers: &Layers<'_, '_>,
-    files: &[TreeFile],
-) -> Result<bool, AllocError>
+pub fn has_other(alloc: Global, layers: &Layers<'_, '_>, files: &[TreeFile]) -> bool
     requires piece_length { IsPieceLength layers.now.piece_length }
     requires shaped { list_any (is_misshaped layers.now.piece_length (seen layers.now)) files.now ≡ false }
     requires small { All (λ file. file.length ≤ MAX_LENGTH) files.now }
-    ensures { IfOk result (λ other.
-        other ≡ list_any (has_other_root layers.now.piece_length (seen layers.now)) files.now) }
+    ensures { result ≡ list_any (has_other_root layers.now.piece_length (seen layers.now)) files.now }
 {
-    let mut memory = vec![in alloc; false; count_layers(layers)]?;
+    let mut memory = no_marks(alloc, count_layers(layers));
     let judged = memory.as_mut_slice();
     'files: for file in files {
         if has_other_root(layers, file, judged) {
-            return Ok(true);
+            return true;
         }
     }
-    Ok(false)
+    false
+}
+
+/// A mark for each of so many roots, none of them set. If memory for them is refused, there is none, and each layer is
+/// hashed as often as files have it.
+fn no_marks(alloc: Global, count: usize) -> Vec<bool>
+    ensures { (i : ℕ) (mark : Bool) → slice_get result.items i ≡ Some mark → mark ≡ false }
+{
+    match vec![in alloc; false; count] {
+        Ok(marks) => marks,
+        Err(_) => Vec::new(alloc),
+    }
 }
 
 /// Whether the layer of a file has not its root. `judged` has a mark for each root that was found to be that of its
@@ -46,7 +51,6 @@ fn has_other_root(layers: &Layers<'_, '_>, file: &TreeFile, judged: &mut [bool])
     requires piece_length { IsPieceLength layers.now.piece_length }
     requires shaped { is_misshaped layers.now.piece_length (seen layers.now) file.now ≡ false }
     requires small { file.now.length ≤ MAX_LENGTH }
-    requires one_each { length judged.old ≡ length (keys_in (seen layers.now)) }
     requires judged { IsKept (IsJudged layers.now.piece_length (seen layers.now)) (seen layers.now) judged.old }
     ensures value { result ≡ has_other_root layers.now.piece_length (seen layers.now) file.now }
     ensures judged { IsKept (IsJudged layers.now.piece_length (seen layers.now)) (seen layers.now) judged.new }
@@ -57,13 +61,15 @@ fn has_other_root(layers: &Layers<'_, '_>, file: &TreeFile, judged: &mut [bool])
     let Some((index, text)) = layer_at(layers, file) else {
         unreachable!();
     };
-    if judged[index] {
+    if judged.get(index) == Some(&true) {
         return false;
     }
     if is_other(layers.piece_length, text, file) {
         return true;
     }
-    judged[index] = true;
+    if index < judged.len() {
+        judged[index] = true;
+    }
     false
 }
 

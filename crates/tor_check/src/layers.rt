@@ -3,7 +3,7 @@ ghost use Rattle.std.specs.Prelude.{◌≡◌, ◌<◌, true, None, IfErr, OnOk,
 ghost use Rattle.std.specs.List.{list_any};
 ghost use Rattle.tor_bencode.specs.Lawful.{HasRisingKeys};
 ghost use Rattle.tor_bencode.specs.RefView.{view};
-ghost use Rattle.tor_check.specs.steps.Judged.{IsFirst, IsHeadOf, first_in, layer_conditions};
+ghost use Rattle.tor_check.specs.steps.Judged.{IsHeadOf, Names, first_in, layer_conditions};
 ghost use Rattle.tor_check.specs.steps.Layers.{seen};
 ghost use Rattle.tor_check.specs.steps.Sides.{AreSidesOf, first_of_both};
 ghost use Rattle.tor_merkle.specs.Layer.{IsPieceLength};
@@ -34,7 +34,7 @@ pub fn judge_layers(
     requires judged { first_of_both (info_of (view root.now)) ≡ None }
     requires allowed { has_v2 (kind_of (info_of (view root.now))) ≡ true → IsPieceLength head.now.piece_length }
     ensures accepted { OnOk result (first_in layer_conditions (view root.now) ≡ None) }
-    ensures refused { IfErr result (IsFirst (first_in layer_conditions (view root.now))) }
+    ensures refused { IfErr result (Names (first_in layer_conditions (view root.now))) }
 {
     if !head.kind.has_v2() {
         return Ok(());
@@ -49,7 +49,7 @@ pub fn judge_layers(
     if has_misshaped(&layers, &sides.files) {
         return Err(Refusal::LayerLength);
     }
-    if has_other(alloc, &layers, &sides.files)? {
+    if has_other(alloc, &layers, &sides.files) {
         return Err(Refusal::LayerRoot);
     }
     Ok(())

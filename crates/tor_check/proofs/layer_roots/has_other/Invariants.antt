@@ -5,6 +5,5 @@ use Rattle.tor_check.proofs.layer_roots.has_other.Given as goal
 abbrev pub invariant-files : goal.invariant-files
 invariant-files l = record {
   none : list_any (has_other_root l.layers.piece_length (seen l.layers)) (take l.file-index l.files) ≡ false;
-  one_each : length l.judged ≡ length (keys_in (seen l.layers));
   judged : IsKept (IsJudged l.layers.piece_length (seen l.layers)) (seen l.layers) l.judged;
 }

@@ -31,7 +31,7 @@ returns-in-Err-judge_layers-clause-refused c =
     let sides =
     subst (λ info. first_of_both info ≡ None) c.in-Ok.ensures.read.info c.in-Ok-read_sides.ensures.accepted in
     at_layers (view c.args.root.now) c.in-Err-judge_layers.refusal c.in-Ok.ensures.accepted sides
-    c.in-Err-judge_layers.ensures.refused
+    (inr c.in-Err-judge_layers.ensures.refused)
 
 pub returns-in-Err-judge_alignment-clause-refused : goal.returns-in-Err-judge_alignment-clause-refused
 returns-in-Err-judge_alignment-clause-refused c =
