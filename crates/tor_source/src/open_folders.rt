@@ -2,7 +2,7 @@
 //! no link that takes the place of a folder meanwhile leads out of it.
 ghost use Rattle.std.specs.Prelude.{◌≤◌, vec_len};
 
-use crate::faults::ScanFault;
+use crate::faults::{ScanFault, is_absence};
 use crate::listed::FileNumber;
 use crate::places::{place_below, without_slash};
 use std::alloc::{AllocError, Global};
@@ -44,7 +44,7 @@ where
         if let Some(descriptors) = descriptors(rt, alloc)? {
             let file = open_folder(rt, alloc, &folders.top.place)?;
             let top = hold(alloc, &descriptors, file)?;
-            if is_there(rt, &top) {
+            if is_there(rt, &top)? {
                 folders.descriptors = Some(descriptors);
                 folders.top = top;
             }
@@ -160,13 +160,16 @@ fn hold<F: AsRawFd + Drop>(
 }
 
 // Whether the system has a folder that is held open at its place.
-fn is_there<R: Files>(rt: &R, folder: &OpenFolder<R::File>) -> bool {
+fn is_there<R: Files>(rt: &R, folder: &OpenFolder<R::File>) -> io::Result<bool> {
     let Some(file) = &folder.file else {
-        return false;
+        return Ok(false);
     };
-    match (file.metadata(), rt.metadata(&folder.place)) {
-        (Ok(opened), Ok(there)) => FileNumber::of(&opened).is(FileNumber::of(&there)),
-        _ => false,
+    let opened = FileNumber::of(&file.metadata()?);
+    match rt.metadata(&folder.place) {
+        Ok(there) => Ok(opened.is(FileNumber::of(&there))),
+        Err(fault) if is_absence(fault.kind()) => Ok(false),
+        Err(fault) if matches!(fault.kind(), ErrorKind::PermissionDenied) => Ok(false),
+        Err(fault) => Err(fault),
     }
 }
 
