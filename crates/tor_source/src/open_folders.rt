@@ -90,31 +90,32 @@ where
         place: &str,
         told: &Metadata,
     ) -> io::Result<R::Dir> {
-        self.go_into(rt, alloc, place, told)?;
+        let is_held = self.go_into(rt, alloc, place, told)?;
         match self.below.last() {
-            Some(folder) if self.descriptors.is_some() => names_in(rt, alloc, &folder.place),
+            Some(folder) if is_held => names_in(rt, alloc, &folder.place),
             _ => rt.open_dir(place),
         }
     }
 
-    /// Holds the folder at a place open, in the last one that is, if it is not deeper than a file may be.
+    /// Holds the folder at a place open, in the last one that is, if it is not deeper than a file may be; and whether it
+    /// does.
     pub(crate) fn go_into(
         &mut self,
         rt: &R,
         alloc: Global,
         place: &str,
         told: &Metadata,
-    ) -> io::Result<()> {
+    ) -> io::Result<bool> {
         let descriptors = match &self.descriptors {
             Some(descriptors) if self.below.len() < MAX_OPEN => descriptors,
-            _ => return Ok(()),
+            _ => return Ok(false),
         };
         let file = open_folder(rt, alloc, place)?;
         if !FileNumber::of(&file.metadata()?).is(FileNumber::of(told)) {
             return Err(io::Error::from(ErrorKind::Other));
         }
         self.below.push(hold(alloc, descriptors, file)?)?;
-        Ok(())
+        Ok(true)
     }
 }
 
