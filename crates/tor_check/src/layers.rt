@@ -1,10 +1,11 @@
 //! The piece layers of a torrent (BEP 52, "piece layers"), judged: whether they are there and have their lengths.
-ghost use Rattle.std.specs.Prelude.{◌≡◌, ◌<◌, true, None, IfErr, OnOk, option_map};
+ghost use Rattle.std.specs.Prelude.{◌≡◌, ◌<◌, true, false, None, IfErr, OnOk, option_map};
 ghost use Rattle.std.specs.List.{list_any};
 ghost use Rattle.tor_bencode.specs.Lawful.{HasRisingKeys};
 ghost use Rattle.tor_bencode.specs.RefView.{view};
 ghost use Rattle.tor_check.specs.steps.Judged.{IsHeadOf, Names, first_in, layer_conditions};
 ghost use Rattle.tor_check.specs.steps.Layers.{seen};
+ghost use Rattle.tor_check.specs.declared.refusal.Refusal.TheVariants.{LayerAbsent, LayerLength, LayerRoot};
 ghost use Rattle.tor_check.specs.steps.Sides.{AreSidesOf, first_of_both};
 ghost use Rattle.tor_merkle.specs.Layer.{IsPieceLength};
 ghost use Rattle.tor_spec.specs.valid.Layers.{is_long, is_misshaped, lacks_layer, lacks_layers};
@@ -13,7 +14,7 @@ ghost use Rattle.tor_tree.specs.Kinds.{has_v2};
 
 use crate::head::CommonKeys;
 use crate::layer_keys::{Layers, layers_of};
-use crate::layer_roots::has_other;
+use crate::layer_roots::{has_faulty, has_other_length};
 use crate::layer_texts::{layer_text, text_of_layer};
 use crate::refusal::Refusal;
 use crate::sides::Sides;
@@ -43,16 +44,30 @@ pub fn judge_layers(
     if lacks_layers(&layers, &sides.files) {
         return Err(Refusal::LayersAbsent);
     }
-    if lacks_a_layer(&layers, &sides.files) {
-        return Err(Refusal::LayerAbsent);
-    }
-    if has_misshaped(&layers, &sides.files) {
-        return Err(Refusal::LayerLength);
-    }
-    if has_other(alloc, &layers, &sides.files) {
-        return Err(Refusal::LayerRoot);
+    // Of most torrents no layer has a fault, and then each is looked for once.
+    if has_faulty(alloc, &layers, &sides.files) {
+        return Err(fault_of(&layers, &sides.files));
     }
     Ok(())
+}
+
+/// What is wrong with the layers of files, of which some layer has a fault.
+fn fault_of(layers: &Layers<'_, '_>, files: &[TreeFile]) -> Refusal
+    requires some { 0 < layers.now.piece_length }
+    ensures absent { list_any (lacks_layer layers.now.piece_length (seen layers.now)) files.now ≡ true
+        → result ≡ LayerAbsent }
+    ensures misshaped { list_any (lacks_layer layers.now.piece_length (seen layers.now)) files.now ≡ false
+        → list_any (is_misshaped layers.now.piece_length (seen layers.now)) files.now ≡ true → result ≡ LayerLength }
+    ensures other { list_any (lacks_layer layers.now.piece_length (seen layers.now)) files.now ≡ false
+        → list_any (is_misshaped layers.now.piece_length (seen layers.now)) files.now ≡ false → result ≡ LayerRoot }
+{
+    if lacks_a_layer(layers, files) {
+        return Refusal::LayerAbsent;
+    }
+    if has_misshaped(layers, files) {
+        return Refusal::LayerLength;
+    }
+    Refusal::LayerRoot
 }
 
 /// Whether layers are needed and absent, or no dictionary.
@@ -112,6 +127,5 @@ fn is_misshaped(layers: &Layers<'_, '_>, file: &TreeFile) -> bool
     if file.length <= layers.piece_length {
         return false;
     }
-    let pieces = file.length.div_ceil(layers.piece_length);
-    text_of_layer(layers, file).len() as u128 != 32 * u128::from(pieces)
+    has_other_length(layers.piece_length, text_of_layer(layers, file), file)
 }

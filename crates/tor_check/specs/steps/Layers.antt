@@ -1,5 +1,5 @@
 -- What the layers are seen as, and what is kept of them by the index of a root among their keys.
-use Rattle.std.specs.Prelude.{◌≡◌, ℕ, Bool, true, List, [], Option, Some, IfSome, option_map, slice_get, unwrap_or}
+use Rattle.std.specs.Prelude.{◌≡◌, ◌||◌, ℕ, Bool, true, List, [], Option, Some, IfSome, option_map, slice_get, unwrap_or}
 use Rattle.std.specs.Arc.{arc_slice_items}
 use Rattle.std.specs.Str.{bytes_eq}
 use Rattle.std.specs.declared.alloc.Global.{Global}
@@ -10,8 +10,9 @@ use Rattle.tor_bencode.specs.RefView.{view}
 use Rattle.tor_check.specs.declared.layer_keys.Layers.{Layers}
 use Rattle.tor_merkle.specs.Layer.{piece_level}
 use Rattle.tor_merkle.specs.Stack.{padded_root}
-use Rattle.tor_spec.specs.valid.Layers.{hashes_in}
+use Rattle.tor_spec.specs.valid.Layers.{has_other_root, hashes_in, is_misshaped}
 use Rattle.tor_tree.specs.Properties.{as_string}
+use Rattle.tor_tree.specs.declared.tree_file.TreeFile.{TreeFile}
 
 -- where the layers are absent, an empty dictionary
 abbrev pub seen : Layers → Data
@@ -24,6 +25,10 @@ hashes_of layer = unwrap_or (option_map arc_slice_items layer) []
 -- the layer of the files that have this root
 abbrev pub layer_of_root : Data → List ℕ → List (List ℕ)
 layer_of_root layers root = hashes_in (unwrap_or (as_string (value_of root layers)) [])
+
+-- the layer of a long file is not one hash for each piece, or has not the file's root
+abbrev pub has_faulty_layer : ℕ → Data → TreeFile → Bool
+has_faulty_layer piece_length layers file = is_misshaped piece_length layers file || has_other_root piece_length layers file
 
 -- what is kept at the index of a root is fit for it
 abbrev pub IsKept : {X : Type 0} → (List ℕ → X → Type 0) → Data → List X → Type 0
