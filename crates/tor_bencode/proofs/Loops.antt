@@ -1,7 +1,8 @@
 -- Items and pairs read one after the other, as a loop does.
 use Rattle.tor_bencode.proofs.Names.{◌≡◌, ℕ, zero, suc, ◌-◌, ◌≤◌, ◌<◌, List, [], ◌∷◌, ◌++◌, length, get_or, Some}
 use Rattle.tor_bencode.proofs.Names.{Result, Ok, Err, true, false, ◌==◌, refl, sym, ap, ap₂, take, drop, ◌∙◌, arith}
-use Rattle.tor_bencode.proofs.Names.{nat_tests, ref_view, ref_items_view, ItemRef, Stop, Data, Items, no_items, item, Pairs}
+use Rattle.tor_bencode.proofs.Names.{nat_tests, ref_view, ref_items_view, ItemRef, Stop, Data, Items, no_items, item}
+use Rattle.tor_bencode.proofs.Names.{Pairs}
 use Rattle.tor_bencode.proofs.Names.{no_pairs, pair, Fault, ◌>>=◌, Reading, Stops, value_at, value_with, nested_at}
 use Rattle.tor_bencode.proofs.Names.{items_at, Option, cond, Bor, ref_pairs_view, KeyOrder, pairs_at, string_at}
 use Rattle.tor_bencode.proofs.Names.{follows, is_ascii_digit}

@@ -20,8 +20,8 @@ differ : (o : Ordering) → is_eq o ≡ false → (one other : List ℕ) → sli
 differ o apart one other is = sym (is_eq-slice_cmp one other) ∙ ap is_eq is ∙ apart
 
 -- the first of rising keys comes before each later one
-first_below : (pairs : List RefPair) (first : List ℕ) (k : ℕ) (d : RefPair) → AreRising (first ∷ keys_of (ref_pairs_view pairs))
-    → k < length pairs → slice_cmp nat_cmp first (get_or pairs k d).0.now ≡ Less
+first_below : (pairs : List RefPair) (first : List ℕ) (k : ℕ) (d : RefPair)
+    → AreRising (first ∷ keys_of (ref_pairs_view pairs)) → k < length pairs → slice_cmp nat_cmp first (get_or pairs k d).0.now ≡ Less
 first_below [] first k d h lt = absurd (omega (arith, lt))
 first_below (p ∷ pairs) first zero d h lt = h.0
 first_below (p ∷ pairs) first (suc k) d h lt =
@@ -32,7 +32,8 @@ pub value_at : (pairs : List RefPair) (key : List ℕ) (k : ℕ) (d : RefPair) �
     → (get_or pairs k d).0.now ≡ key → value_in key (ref_pairs_view pairs) ≡ Some (ref_view (get_or pairs k d).1)
 value_at [] key k d h lt is = absurd (omega (arith, lt))
 value_at (p ∷ pairs) key zero d h lt is =
-    ap (λ q. value_in q (ref_pairs_view (p ∷ pairs))) (sym is) ∙ first_value p.0.now (ref_view p.1) (ref_pairs_view pairs)
+    ap (λ q. value_in q (ref_pairs_view (p ∷ pairs))) (sym is)
+    ∙ first_value p.0.now (ref_view p.1) (ref_pairs_view pairs)
 value_at (p ∷ pairs) key (suc k) d h lt is =
     let below = first_below pairs p.0.now k d h (omega arith) in
     let less = subst (λ q. slice_cmp nat_cmp p.0.now q ≡ Less) is below in

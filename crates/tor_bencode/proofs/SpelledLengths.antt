@@ -1,6 +1,8 @@
 -- How many bytes spellings have, part by part.
-use Rattle.tor_bencode.proofs.Names.{◌≡◌, ◌+◌, ◌<◌, ◌++◌, ◌∷◌, ◌∙◌, ℕ, List, [], Bor, ap, refl, sym, length, get_or, take, drop}
-use Rattle.tor_bencode.proofs.Names.{length-append, take_at_read, drop_more, arith, Data, Items, Pairs, item, no_items, pair, no_pairs}
+use Rattle.tor_bencode.proofs.Names.{◌≡◌, ◌+◌, ◌<◌, ◌++◌, ◌∷◌, ◌∙◌, ℕ, List, [], Bor, ap, refl, sym, length, get_or}
+use Rattle.tor_bencode.proofs.Names.{take, drop}
+use Rattle.tor_bencode.proofs.Names.{length-append, take_at_read, drop_more, arith, Data, Items, Pairs, item, no_items}
+use Rattle.tor_bencode.proofs.Names.{pair, no_pairs}
 use Rattle.tor_bencode.proofs.Names.{ItemRef, ref_view, ref_items_view, ref_pairs_view, spelling, items_spelling}
 use Rattle.tor_bencode.proofs.Names.{pairs_spelling, string_spelling, codes}
 use Rattle.tor_bencode.proofs.Loops.{items_before, items_view-push, pairs_before, pairs_view-push}

@@ -1,7 +1,8 @@
 //! Items that own their bytes, of items that borrow them, and the other way round.
 ghost use Rattle.std.specs.Prelude.{◌≡◌, ℤ, IfOk, IsOk};
 ghost use Rattle.tor_bencode.specs.Data.{integer};
-ghost use Rattle.tor_bencode.specs.RefView.{view as view_of_ref, items_view as items_of_refs, pairs_view as pairs_of_refs};
+ghost use Rattle.tor_bencode.specs.RefView.{view as view_of_ref, items_view as items_of_refs};
+ghost use Rattle.tor_bencode.specs.RefView.{pairs_view as pairs_of_refs};
 ghost use Rattle.tor_bencode.specs.View.{view, items_view, pairs_view};
 
 use crate::item::Item;

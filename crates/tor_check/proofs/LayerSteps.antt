@@ -2,7 +2,8 @@
 use Rattle.tor_check.proofs.Names.{◌≡◌, ℕ, ◌*◌, ◌-◌, ◌^◌, ◌<◌, ◌≤◌, ◌/◌, ◌==◌, true, false, true≢false, Bool, not, ◌&&◌}
 use Rattle.tor_check.proofs.Names.{List, length, refl, nat_lt, replicate, arith, ap, sym, subst, ◌∙◌, div_ceil}
 use Rattle.tor_check.proofs.Names.{eqb-true, lt-ltb, length-replicate, count_of_piece_roots, IsPieceLength, piece_level}
-use Rattle.tor_check.proofs.Names.{piece_roots, MAX_LENGTH, [], ◌∷◌, ◌||◌, Data, Option, None, Some, TreeFile, div_ceil_times}
+use Rattle.tor_check.proofs.Names.{piece_roots, MAX_LENGTH, [], ◌∷◌, ◌||◌, Data, Option, None, Some, TreeFile}
+use Rattle.tor_check.proofs.Names.{div_ceil_times}
 use Rattle.tor_check.proofs.Names.{has_faulty_layer, has_other_root, is_misshaped, is_none, lacks_layer, layer_text}
 use Rattle.tor_check.proofs.Names.{list_any, ltb-true, unwrap_or, option_map, refusal_for, Refusal, if◌then◌else◌}
 use Rattle.tor_check.specs.declared.refusal.Refusal.TheVariants.{LayerAbsent, LayerLength, LayerRoot}

@@ -7,7 +7,8 @@ pub use Rattle.std.proofs.Common.{unwrap_or, zero, ℕ, ℤ, ⊎_elim, ◌&&◌,
 pub use Rattle.std.proofs.Common.{◌∙◌, ◌∷◌, ◌≡◌, ◌≢◌, ◌≤◌, ◌⊎◌}
 pub use Rattle.std.proofs.Math.Nat.{mul-le-mul_left, mul-le-mul_right}
 pub use Rattle.std.proofs.Math.Seq.{take-suc}
-pub use Rattle.std.proofs.lemmas.Bool.{cases_lt, cond-true, eqb-false, eqb-true, le-leb, le-ltb, lt-leb, lt-ltb, ltb-true}
+pub use Rattle.std.proofs.lemmas.Bool.{cases_lt, cond-true, eqb-false, eqb-true, le-leb, le-ltb, lt-leb, lt-ltb}
+pub use Rattle.std.proofs.lemmas.Bool.{ltb-true}
 pub use Rattle.std.proofs.lemmas.Bool.{ltb-false}
 pub use Rattle.std.proofs.lemmas.Grind.{div_ceil_times}
 pub use Rattle.std.proofs.lemmas.Int.{to_z-of_z}
@@ -46,7 +47,8 @@ pub use Rattle.tor_check.specs.declared.refusal.Refusal.{Refusal}
 pub use Rattle.tor_check.specs.declared.refusal.Refusal.TheVariants.{Memory}
 pub use Rattle.tor_check.specs.steps.Judged.{IsFirst, Names, alignment_conditions, conditions_before_memory, first_in}
 pub use Rattle.tor_check.specs.steps.Judged.{first_of_alignment, head_conditions, layer_conditions}
-pub use Rattle.tor_check.specs.steps.Layers.{IsJudged, IsKept, IsShared, has_faulty_layer, hashes_of, layer_of_root, seen}
+pub use Rattle.tor_check.specs.steps.Layers.{IsJudged, IsKept, IsShared, has_faulty_layer, hashes_of, layer_of_root}
+pub use Rattle.tor_check.specs.steps.Layers.{seen}
 pub use Rattle.tor_check.specs.steps.Listed.{all_listed, file_of_listed, files_from, first_after_sizes, first_of_list}
 pub use Rattle.tor_check.specs.steps.Listed.{list_holds, listed_entry, listed_single, lists_some, marks_in, marks_of}
 pub use Rattle.tor_check.specs.steps.Listed.{side_conditions, size_of_listed, sized, sized_files, takes_files}

@@ -44,8 +44,8 @@ fn no_marks(alloc: Global, count: usize) -> Vec<bool>
     }
 }
 
-/// Whether the layer of a file is not one hash for each of its pieces, or has not its root. `judged` has a mark for each
-/// root that was found to be that of its layer.
+/// Whether the layer of a file is not one hash for each of its pieces, or has not its root. `judged` has a mark for
+/// each root that was found to be that of its layer.
 fn has_faulty_layer(layers: &Layers<'_, '_>, file: &TreeFile, judged: &mut [bool]) -> bool
     requires piece_length { IsPieceLength layers.now.piece_length }
     requires small { file.now.length ≤ MAX_LENGTH }

@@ -1,6 +1,7 @@
 -- What a file tree is refused for before memory is taken.
 use Rattle.tor_tree.proofs.Cited.{◌≡◌, ◌<◌, false, Some, List, [], ◌∷◌, Vec, Global, ℕ, length, pair}
-use Rattle.tor_tree.proofs.Cited.{dictionary, arith, refl, rules, tree_fault, takes_memory_in, view, pairs_view, Item, Dict}
+use Rattle.tor_tree.proofs.Cited.{dictionary, arith, refl, rules, tree_fault, takes_memory_in, view, pairs_view, Item}
+use Rattle.tor_tree.proofs.Cited.{Dict}
 use Rattle.tor_tree.proofs.Cited.{the_lemmas}
 use Rattle.tor_tree.specs.declared.tree_file.TreeFault.TheVariants as faults
 

@@ -2,7 +2,8 @@
 use Rattle.tor_tree.proofs.Cited.{◌≡◌, Bor, ◌==◌, ◌+◌, ◌<◌, ◌≤◌, ◌&&◌, get_or, drop, is_none, Bool, true, ℕ, false, Vec}
 use Rattle.tor_tree.proofs.Cited.{Global, List, [], ◌∷◌, ◌++◌, length, map, refl, sym, ap, ◌∙◌, append_assoc, rules}
 use Rattle.tor_tree.proofs.Cited.{arith, zero, suc, and_parts, append-nil, drop_more, drop_all, map-append, Data}
-use Rattle.tor_tree.proofs.Cited.{dictionary, Pairs, pair, no_pairs, ref_view, ref_pairs_view, ItemRef, RefDict, ref_lemmas}
+use Rattle.tor_tree.proofs.Cited.{dictionary, Pairs, pair, no_pairs, ref_view, ref_pairs_view, ItemRef, RefDict}
+use Rattle.tor_tree.proofs.Cited.{ref_lemmas}
 use Rattle.tor_tree.proofs.Cited.{entries_in, entries_of, under, are_entries, is_folder, takes_memory, takes_memory_in}
 use Rattle.tor_tree.proofs.Cited.{name_fault, are_properties, DescribedFile, entry_at, path_if_any, facts_in}
 
@@ -34,7 +35,8 @@ pub ruleset walking = (added_folder, view_dictionary)
 
 -- the pairs from index i on are those of the pair there and of the rest
 pub pairs_from : (items : List (Bor (List ℕ) × ItemRef)) (i : ℕ) (p : Bor (List ℕ) × ItemRef) → i < length items
-    → p ≡ get_or items i p → ref_pairs_view (drop i items) ≡ pair p.0.now (ref_view p.1) (ref_pairs_view (drop (i + 1) items))
+    → p ≡ get_or items i p
+    → ref_pairs_view (drop i items) ≡ pair p.0.now (ref_view p.1) (ref_pairs_view (drop (i + 1) items))
 pairs_from items i p within is = ap ref_pairs_view (drop_more items i p within) ∙ rw (sym is) refl
 
 shape_split : (key : List ℕ) (value : Data) (pairs : Pairs) → are_entries (pair key value no_pairs) ≡ false
@@ -104,8 +106,8 @@ module _ (item : ItemRef) (pairs : Vec (Bor (List ℕ) × ItemRef) Global) (seen
       rw of_item (sym (append-nil new) ∙ rw ended at same)
 
   -- what was added of a pair, and what is left
-  pub entries_go_on : (folder : List (List ℕ)) (p : Bor (List ℕ) × ItemRef) (now new all : List DescribedFile) → i < length items
-      → p ≡ get_or items i p → new ≡ now ++ map (entry_at folder) (entries_in (pair p.0.now (ref_view p.1) no_pairs))
+  pub entries_go_on : (folder : List (List ℕ)) (p : Bor (List ℕ) × ItemRef) (now new all : List DescribedFile)
+      → i < length items → p ≡ get_or items i p → new ≡ now ++ map (entry_at folder) (entries_in (pair p.0.now (ref_view p.1) no_pairs))
       → now ++ map (entry_at folder) (entries_in (ref_pairs_view (drop i items))) ≡ all
       → new ++ map (entry_at folder) (entries_in (ref_pairs_view (drop (i + 1) items))) ≡ all
   entries_go_on folder p now new all within is added before =

@@ -1,5 +1,6 @@
 -- What the layers are seen as, and what is kept of them by the index of a root among their keys.
-use Rattle.std.specs.Prelude.{◌≡◌, ◌||◌, ℕ, Bool, true, List, [], Option, Some, IfSome, option_map, slice_get, unwrap_or}
+use Rattle.std.specs.Prelude.{◌≡◌, ◌||◌, ℕ, Bool, true, List, [], Option, Some, IfSome, option_map, slice_get}
+use Rattle.std.specs.Prelude.{unwrap_or}
 use Rattle.std.specs.Arc.{arc_slice_items}
 use Rattle.std.specs.Str.{bytes_eq}
 use Rattle.std.specs.declared.alloc.Global.{Global}
@@ -28,7 +29,8 @@ layer_of_root layers root = hashes_in (unwrap_or (as_string (value_of root layer
 
 -- the layer of a long file is not one hash for each piece, or has not the file's root
 abbrev pub has_faulty_layer : ℕ → Data → TreeFile → Bool
-has_faulty_layer piece_length layers file = is_misshaped piece_length layers file || has_other_root piece_length layers file
+has_faulty_layer piece_length layers file =
+    is_misshaped piece_length layers file || has_other_root piece_length layers file
 
 -- what is kept at the index of a root is fit for it
 abbrev pub IsKept : {X : Type 0} → (List ℕ → X → Type 0) → Data → List X → Type 0

@@ -1,4 +1,5 @@
-use Rattle.tor_bencode.proofs.Names.{◌≡◌, ◌∙◌, ap, arith, ints, rules, length, SFits, of_z, to_z, ref_view, ref_items_view}
+use Rattle.tor_bencode.proofs.Names.{◌≡◌, ◌∙◌, ap, arith, ints, rules, length, SFits, of_z, to_z, ref_view}
+use Rattle.tor_bencode.proofs.Names.{ref_items_view}
 use Rattle.tor_bencode.proofs.Names.{ref_pairs_view, items_spelling, pairs_spelling, spelling, signed_base_ten}
 use Rattle.tor_bencode.proofs.Names.{signed_decimal}
 use mir.Syntax.{w64}
@@ -45,4 +46,5 @@ pub length_of_pairs-pairs-preserved : goal.length_of_pairs-pairs-preserved
 length_of_pairs-pairs-preserved t c =
     let more = pairs_longer c.args.pairs.now c.pairs.key-index c.pairs-item.result (omega arith) c.pairs-item.is in
     let both = c.saturating_add.ensures in
-    omega (arith, more, c.pairs.invariant, c.length_of.ensures, c.length_of_text.ensures, both, c.saturating_add-count.ensures)
+    let all = c.saturating_add-count.ensures in
+    omega (arith, more, c.pairs.invariant, c.length_of.ensures, c.length_of_text.ensures, both, all)

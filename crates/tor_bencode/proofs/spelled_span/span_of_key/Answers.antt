@@ -1,5 +1,7 @@
-use Rattle.tor_bencode.proofs.Names.{◌≡◌, ◌+◌, ◌-◌, ◌∙◌, ap, ap₂, sym, arith, length, drop, drop_all, refl, Some, true, bytes_eq}
-use Rattle.tor_bencode.proofs.Names.{dictionary, pair, ref_view, ref_pairs_view, pairs_spelling, spelling, string_spelling}
+use Rattle.tor_bencode.proofs.Names.{◌≡◌, ◌+◌, ◌-◌, ◌∙◌, ap, ap₂, sym, arith, length, drop, drop_all, refl, Some, true}
+use Rattle.tor_bencode.proofs.Names.{bytes_eq}
+use Rattle.tor_bencode.proofs.Names.{dictionary, pair, ref_view, ref_pairs_view, pairs_spelling, spelling}
+use Rattle.tor_bencode.proofs.Names.{string_spelling}
 use Rattle.tor_bencode.proofs.Names.{span_of, span_in}
 use Rattle.tor_bencode.proofs.SpelledLengths.{left_from, length-pair}
 use Rattle.tor_bencode.proofs.Views.{ref_view-Dict}
@@ -28,8 +30,11 @@ returns-then-eq c =
     let later = rw c.split_at.ensures.back at c.length_of_pairs.ensures in
     let text = c.length_of_text.ensures in
     let fits = c.ranges.size.fits in
-    let from : at + c.length_of_text.result ≡ at + length (string_spelling k) = omega (arith, place, left, text, fits) in
-    let to : c.args.size - 1 - c.length_of_pairs.result ≡ at + length (string_spelling k) + length (spelling value) = omega (arith, place, left, later, fits) in
+    let from : at + c.length_of_text.result ≡ at + length (string_spelling k) =
+    omega (arith, place, left, text, fits) in
+    let to : c.args.size - 1 - c.length_of_pairs.result
+    ≡ at + length (string_spelling k) + length (spelling value) =
+    omega (arith, place, left, later, fits) in
     ap₂ (λ s e. Some (s, e)) from to ∙ sym span
 
 pub returns : goal.returns

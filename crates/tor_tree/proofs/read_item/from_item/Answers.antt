@@ -1,4 +1,5 @@
-use Rattle.tor_tree.proofs.Cited.{◌≡◌, ◌<◌, ◌∙◌, false, Some, ap, inl, length, rules, subst, sym, view, pairs_view, dictionary}
+use Rattle.tor_tree.proofs.Cited.{◌≡◌, ◌<◌, ◌∙◌, false, Some, ap, inl, length, rules, subst, sym, view, pairs_view}
+use Rattle.tor_tree.proofs.Cited.{dictionary}
 use Rattle.tor_tree.proofs.Cited.{takes_memory, takes_memory_in, tree_fault}
 use Rattle.tor_tree.proofs.ItemMemory.{dictionary_of_item, shape_told}
 use Rattle.tor_tree.specs.declared.tree_file.TreeFault.TheVariants.{Shape}

@@ -6,15 +6,15 @@ pub files_of-requires : goal.files_of-requires
 files_of-requires c =
     let read : c.add_folder.new.entries.items ≡ map (entry_at []) (entries_of (ref_view c.args.item.now)) =
     rw (c.new-entries.ensures.items, c.new.ensures.items) at c.in_ok-add_folder.ensures.added in
-    rw (← c.deref.ensures.value) (paths_told (ref_view c.args.item.now) c.in_ok-add_folder.ensures.shaped c.deref.result.now
-    (c.deref.ensures.value ∙ read) c.mixes.result c.mixes.ensures c.in-None.ensures)
+    rw (← c.deref.ensures.value) (paths_told (ref_view c.args.item.now) c.in_ok-add_folder.ensures.shaped
+    c.deref.result.now (c.deref.ensures.value ∙ read) c.mixes.result c.mixes.ensures c.in-None.ensures)
 
 pub returns-in-Some-clause-refused : goal.returns-in-Some-clause-refused
 returns-in-Some-clause-refused c =
     let read : c.add_folder.new.entries.items ≡ map (entry_at []) (entries_of (ref_view c.args.item.now)) =
     rw (c.new-entries.ensures.items, c.new.ensures.items) at c.in_ok-add_folder.ensures.added in
-    inl (sym (c.in-Some.ensures ∙ fault_told (ref_view c.args.item.now) c.in_ok-add_folder.ensures.shaped c.deref.result.now
-    (c.deref.ensures.value ∙ read) c.mixes.result c.mixes.ensures))
+    inl (sym (c.in-Some.ensures ∙ fault_told (ref_view c.args.item.now) c.in_ok-add_folder.ensures.shaped
+    c.deref.result.now (c.deref.ensures.value ∙ read) c.mixes.result c.mixes.ensures))
 
 pub returns-in-None-clause-files : goal.returns-in-None-clause-files
 returns-in-None-clause-files c =
