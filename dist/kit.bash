@@ -89,11 +89,12 @@ static_digest() {
 # name services (NSS). glibc's start files ask for most of them, in an empty C program too.
 loading='^(gconv.*|iconv.*|dl-(open|close|load|libc|sym|deps|cache|version)|dl(open|sym|close|error|mopen|vsym|info|addr)|rtld_static_init|nss.*|getnss.*)\.o$'
 
-# What the other members ask of these. Only to turn wide characters, or to read a catalog of messages, are they called,
+# What the other members ask of these. Only to turn wide characters, to read a catalog of messages, or to make stacks
+# executable, are they called,
 # and then the program ends.
 ends_at=(__gconv __gconv_btwoc_ascii __gconv_close_transform __gconv_create_spec __gconv_destroy_spec
     __gconv_find_transform __gconv_lock __gconv_open __gconv_release_step __gconv_transform_ascii_internal
-    __gconv_transform_internal_ascii)
+    __gconv_transform_internal_ascii __stack_prot)
 
 # A copy of the archive that has none of them: a program that is linked with it cannot load any.
 without_loading() {

@@ -9,7 +9,7 @@ import shutil
 import subprocess
 from collections import namedtuple
 
-from reference import BLOCK, Order, make
+from reference import BLOCK
 from rows import ABC, FOLDER_HYBRID
 from support import Failure, Skipped, Told, done, expect_equal, expect_told, refused
 
@@ -20,8 +20,8 @@ Call = namedtuple('Call', 'name file asked came')
 
 
 def traced(program, words, place, inject, log, data=b'', trace='all'):
-    """Runs the program with a fault in the calls upon one place, or upon any in a list: what came, and the log of such
-    calls."""
+    """Runs the program with a fault in the calls upon one place, upon any in a list, or upon whatever there is: what
+    came, and the log of such calls."""
     strace = shutil.which('strace')
     if not strace:
         raise Skipped('it needs strace')
@@ -31,7 +31,7 @@ def traced(program, words, place, inject, log, data=b'', trace='all'):
     command = [strace, '-qq', '-ff', '-s', '8', '-o', str(log), '-e', f'trace={trace}']
     if isinstance(place, list):
         command += ['-y'] + [word for one in place for word in ('-P', str(one))]
-    else:
+    elif place:
         command += ['-P', str(place)]
     for one in inject:
         command += ['-e', f'inject={one}']
@@ -64,68 +64,62 @@ def expect_faults(program, folder, words, place, rows):
         raise Failure('\n'.join(failures))
 
 
+# What the system is asked, call by call, to find the two files of PATH: what PATH is, three times, where it is held
+# open, and what each file is, by the descriptor of PATH.
+FOUND = 6
+
+
 def test_of_make(program, folder):
-    """Of a file below PATH the system is asked as it is found, whether FILE of --out is it, for its length, before each
-    read, and at the end."""
+    """Of a file below PATH the system is asked as it is found, and before each read, once it is open."""
     files = lay_out(folder)
-    rows = [(f'statx:error={error}:when=3', 'E1 Read file 1 at length')
-            for error in ['EIO', 'EACCES', 'ETIMEDOUT', 'EAGAIN', 'EINTR', 'ELOOP', 'EPERM', 'ENAMETOOLONG']]
-    rows += [(f'statx:error={error}:when=3', 'E3 Missing file 1') for error in ['ENOENT', 'ENOTDIR']]
+    rows = [(f'statx:error={error}:when=1', 'E1 Read file 1 at 0')
+            for error in ['EIO', 'EACCES', 'ETIMEDOUT', 'EAGAIN', 'EINTR', 'ELOOP', 'EPERM', 'ENOENT']]
     rows += [(f'pread64:error={error}:when=1', 'E1 Read file 1 at 0')
              for error in ['EIO', 'EAGAIN', 'EINTR', 'ETIMEDOUT', 'EISDIR']]
-    rows += [(f'openat:error={error}:when=1', 'E1 Read file 1 at 0')
-             for error in ['EACCES', 'EMFILE', 'ENOENT', 'ETIMEDOUT']]
-    rows += [('pread64:retval=0:when=1', 'E2 Changed file 1'), ('statx:error=ENOENT:when=4', 'E2 Changed file 1')]
-    rows += [(f'statx:error={error}:when=1', 'F4 System')
-             for error in ['EIO', 'EACCES', 'ENOENT', 'ETIMEDOUT', 'EINTR']]
-    rows += [(f'statx:error={error}:when=2', 'F4 System') for error in ['EIO', 'EACCES', 'ETIMEDOUT', 'EINTR', 'ELOOP']]
-    # Calls are counted for each thread. Of several workers the calling thread may read no byte of the file, and then
-    # asks for its length again at its fourth call.
-    again = [('statx:error=ENOENT:when=5', 'E2 Changed file 1')]
+    rows += [(f'openat:error={error}:when=1', 'E1 Read file 1 at 0') for error in ['EACCES', 'EMFILE', 'ETIMEDOUT']]
+    rows += [(f'openat:error={error}:when=1', 'E2 Changed file 1') for error in ['ENOENT', 'ENOTDIR']]
+    rows += [('pread64:retval=0:when=1', 'E2 Changed file 1')]
     for how in [[], ['--how', 'halves', '--workers', '2', '--span', '1'], ['--kind', 'v1'], ['--kind', 'hybrid'],
                 ['--how', 'board', '--workers', '2', '--span', '1']]:
         out = folder / 'out'
         out.write_bytes(b'old')
         words = ['make', '--name', 'f', *how, '--out', out, files]
-        shown = rows if not how else rows[7:]
-        expect_faults(program, folder, words, files / 'b', shown if '--workers' in how else shown + again)
+        expect_faults(program, folder, words, files / 'b', rows if not how else rows[8:])
         expect_equal('the old file', b'old', out.read_bytes())
-    words = ['make', '--name', 'f', files]
-    expect_faults(program, folder, words, files, [
-        ('statx:error=EIO:when=2', 'F4 System'), ('getdents64:error=EIO:when=1', 'F4 System'),
-        ('getdents64:error=EIO:when=2', 'F4 System')])
+    expect_faults_as_found(program, folder, ['make', '--name', 'f', files])
+
+
+def expect_faults_as_found(program, folder, words):
+    """Each fault of what is asked to find the files is told as one of PATH."""
+    expect_faults(program, folder, words, None, [
+        (f'statx:error={error}:when={number}', 'F4 System')
+        for number in range(2, FOUND + 1) for error in ['EIO', 'ETIMEDOUT', 'EINTR', 'ELOOP']])
+    expect_faults(program, folder, words, None, [
+        (f'statx:error={error}:when={number}', 'F4 System')
+        for number in [FOUND - 1, FOUND] for error in ['EACCES', 'ENOENT']])
+    expect_faults(program, folder, words, None, [
+        ('getdents64:error=EIO:when=1', 'F4 System'), ('getdents64:error=EIO:when=2', 'F4 System')])
 
 
 def test_of_streams(program, folder):
     """A file that is read once is opened when its turn comes: what cannot be, and what cannot be read, is told with how
     much of it came."""
     files = lay_out(folder)
-    rows = [(f'statx:error={error}:when=1', 'F4 System') for error in ['EIO', 'EACCES', 'ENOENT']]
-    rows += [(f'statx:error={error}:when=2', 'F4 System') for error in ['EIO', 'EACCES', 'ELOOP']]
-    rows += [(f'statx:error={error}:when=3', 'E1 Read file 1 at 0')
-             for error in ['EIO', 'EACCES', 'ENOENT', 'ENOTDIR', 'ETIMEDOUT', 'EINTR', 'ELOOP']]
+    rows = [(f'statx:error={error}:when=1', 'E1 Read file 1 at 0')
+            for error in ['EIO', 'EACCES', 'ENOENT', 'ENOTDIR', 'ETIMEDOUT', 'EINTR', 'ELOOP']]
     rows += [(f'openat:error={error}:when=1', 'E1 Read file 1 at 0')
              for error in ['EACCES', 'EMFILE', 'ENOENT', 'ETIMEDOUT']]
     rows += [(f'read:error={error}:when={when}', f'E1 Read file 1 at {when - 1}')
              for error in ['EIO', 'EAGAIN', 'EINTR', 'ETIMEDOUT', 'EISDIR'] for when in [1, 2]]
+    # It is told where it has fewer bytes than when it was found.
+    rows += [('read:retval=0:when=1', 'E1 Read file 1 at 0')]
     for more in [[], ['--workers', '2', '--span', '1'], ['--kind', 'v1'], ['--kind', 'hybrid', '--workers', '64']]:
         out = folder / 'out'
         out.write_bytes(b'old')
         words = ['make', '--name', 'f', '--how', 'streams', *more, '--out', out, files]
         expect_faults(program, folder, words, files / 'b', rows)
         expect_equal('the old file', b'old', out.read_bytes())
-
-
-def test_a_file_that_shrinks_is_what_was_read(program, folder):
-    """Of a stream no length is asked first: a file whose first read gives nothing is empty."""
-    files = lay_out(folder)
-    words = ['make', '--name', 'f', '--piece-length', str(BLOCK), '--how', 'streams', str(files), '--kind']
-    for kind in ['v1', 'v2', 'hybrid']:
-        for empty in ['a', 'b']:
-            told, _ = traced(program, [*words, kind], files / empty, ['read:retval=0:when=1'], folder / 'log')
-            contents = [((name.encode(),), data * (name != empty)) for name, data in [('a', b'ab'), ('b', b'c')]]
-            wanted = make(contents, Order(kind, False, b'f', BLOCK, None, False, 'streams', 1, 16))
-            expect_told([*words, kind], done(wanted), told, f'where {empty} has shrunk\n')
+    expect_faults_as_found(program, folder, ['make', '--name', 'f', '--how', 'streams', files])
 
 
 def calls_upon(folder):
@@ -139,19 +133,19 @@ def calls_upon(folder):
     return threads
 
 
-def expect_read_once(words, calls, lengths):
-    """That these files were found, and then file after file opened, each byte of it read once, at least 64 KiB at a
-    time where there are so many, and closed. The one question before it is opened is what it is."""
-    expect_equal(f'{words}: what is asked to find the files', [('statx', name) for name in lengths],
-                 [(call.name, call.file) for call in calls[:len(lengths)]])
-    turns = [(name, list(turn)) for name, turn in itertools.groupby(calls[len(lengths):], lambda call: call.file)]
+def expect_read_once(words, calls, lengths, found):
+    """That so many questions found the files, and then file after file was opened, each byte of it read once, at least
+    64 KiB at a time where there are so many, and closed. A file that was found is asked what it is once it is open, a
+    file by itself before."""
+    turns = [(name, list(turn)) for name, turn in itertools.groupby(calls[found:], lambda call: call.file)]
     expect_equal(f'{words}: the turns of files', list(lengths), [name for name, _ in turns])
     for name, turn in turns:
         reads = [call for call in turn if call.name == 'read']
         small = [call for call in reads if call.asked < 65536 and call.came > 3]
         if small:
             raise Failure(f'{words}\nwanted  of {name} at least 65536 at a time\ncame    {small[:9]}')
-        expect_equal(f'{words}: calls upon {name}', ['statx', 'openat', *['read'] * len(reads), 'close'],
+        opened = ['statx', 'openat'] if found else ['openat', 'statx']
+        expect_equal(f'{words}: calls upon {name}', [*opened, *['read'] * len(reads), 'close'],
                      [call.name for call in turn])
         expect_equal(f'{words}: bytes of {name}, and of its last read', (lengths[name], 0),
                      (sum(call.came for call in reads), reads[-1].came))
@@ -166,7 +160,7 @@ def expect_streams(program, folder, lengths, path):
         expect_equal(f'{words}: status', 0, told.status)
         threads = calls_upon(folder)
         expect_equal(f'{words}: threads that read', 1, len(threads))
-        expect_read_once(words, threads[0], lengths)
+        expect_read_once(words, threads[0], lengths, 1 if path.is_file() else 0)
 
 
 def test_reads_of_a_stream(program, folder):
@@ -199,7 +193,7 @@ def test_a_fault_ends_a_stream(program, folder):
             told, _ = traced(program, words, places, ['read:error=EIO:when=5'], folder / 'log')
             expect_told(words, refused(f'E1 Read file 1 at {start}', 3), told)
             calls = [(call.name, call.file) for thread in calls_upon(folder) for call in thread]
-            wanted = [('statx', 'b'), ('openat', 'b'), *[('read', 'b')] * 3, ('close', 'b')]
+            wanted = [('openat', 'b'), ('statx', 'b'), *[('read', 'b')] * 3, ('close', 'b')]
             expect_equal(f'{words}: the last calls', wanted, calls[-6:])
 
 
@@ -320,14 +314,14 @@ def test_places_of_reads(program, folder):
 
 
 def test_what_is_asked_before_a_refusal(program, folder):
-    """A refusal of the order comes before a file's length is asked: it is asked once, as it is found."""
+    """A refusal of the order comes before a file is opened. What was asked to find it names the descriptor of PATH."""
     files = lay_out(folder)
     for words in [['--piece-length', '5'], ['--how', 'halves', '--workers', '65'], ['--span', '3'],
                   ['--how', 'board', '--workers', '65'], ['--how', 'streams', '--workers', '65'],
                   ['--how', 'streams', '--piece-length', '1073741824']]:
         words = ['make', '--name', 'f', *words, files]
         _, log = traced(program, words, files / 'a', [], folder / 'log')
-        expect_equal(f'{words}: calls upon a file', 1, len(log.splitlines()))
+        expect_equal(f'{words}: calls upon a file', 0, len(log.splitlines()))
     words = ['make', '--name', '..', files]
     _, log = traced(program, words, files, [], folder / 'log')
     expect_equal(f'{words}: calls upon PATH', 0, len(log.splitlines()))

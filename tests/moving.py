@@ -4,18 +4,30 @@ Each call that asks something of the files is held in turn, and meanwhile a file
 something else, or the whole folder goes. What comes has to be the torrent, or the bits, of what was there before or of
 what is there then, or the fault of that file. With `--check-after` a torrent goes out only where its files have each
 piece of it afterwards. bench/hostile tries all; tests/run a part of it that takes seconds.
+
+And without a pause, or with short ones, a folder or a file is exchanged with a link that leads to others like it,
+outside: no byte of those may come into a torrent.
+
+tests/moving.py PROGRAM [COUNT]     makes so many torrents meanwhile, 10,000 if none is named
 """
+import collections
+import ctypes
 import functools
 import os
 import re
 import shutil
+import signal
+import sys
+import tempfile
+import time
 from collections import namedtuple
+from pathlib import Path
 
 import reference
 from hostile import BLOCK, CONTENTS, KINDS, LONG, OLD, WAYS, torrent_of
-from reference import Order, Refused, decode, judge
+from reference import Order, Refused, judge
 from refuser import ALL_LATER, Meet, Refuser
-from support import Failure, done, refused, shown_words
+from support import Failure, Skipped, done, refused, run, shown, shown_words
 
 # The file that moves, which is file 1: its place below the folder.
 MOVED = 'b/c'
@@ -75,8 +87,8 @@ def folder_as_file(folder):
 MOVES = [Move('the folder is removed', removed, '[0-3]'), Move('a file is removed', file_removed),
          Move('a file is emptied', emptied), Move('a file is cut', cut), Move('a file grows', grown),
          Move('a file becomes a folder', as_folder), Move('a file becomes a link to itself', as_link),
-         # Who has asked what a file is, and then opens what has become a FIFO, waits until somebody writes into it.
-         Move('a file becomes a FIFO', as_fifo, kinds='s'), Move('a folder becomes a file', folder_as_file, '[12]')]
+         # Who was told what a file is, and then opens what has become a FIFO, waits until somebody writes into it.
+         Move('a file becomes a FIFO', as_fifo, kinds='l'), Move('a folder becomes a file', folder_as_file, '[12]')]
 # Only where it is looked for again does what comes tell of a file that stays as long as it is.
 REWRITTEN = Move('a file is rewritten', rewritten)
 
@@ -116,25 +128,9 @@ def states(after):
     return [tuple(CONTENTS), after, tuple((path, data) for path, data in CONTENTS if path in dict(after))]
 
 
-def fronts_of(kind, out, length):
-    """What is answered of the same files, where of the one that moves so many bytes were read as the output tells: a
-    front of what it was, of at least this length. Of a stream that is right too."""
-    for listed in reference.Torrent(decode(out)).tree_files if kind == 'v2' else []:
-        if listed[0] == tuple(MOVED.encode().split(b'/')):
-            length = max(length, listed[1][b'length'])
-    entries = [] if kind == 'v2' else decode(out)[b'info'][b'files']
-    for entry in entries:
-        if entry[b'path'] == MOVED.encode().split(b'/'):
-            length = max(length, entry[b'length'])
-    return answer_of(kind, tuple((path, data[:length] if data is LONG else data) for path, data in CONTENTS))
-
-
-def fault_of_make(kind, way, move, came, after):
+def fault_of_make(kind, move, came, after):
     """What is wrong with an answer of `make`; None where nothing is."""
-    wanted = [answer_of(kind, files) for files in states(after)]
-    if came.status == 0 and way == 'streams' and move.act in (cut, emptied):
-        wanted.append(fronts_of(kind, came.out, 20_000 if move.act is cut else 0))
-    if came[:3] in wanted:
+    if came[:3] in [answer_of(kind, files) for files in states(after)]:
         return None
     line = rb'tor: (F4 System|E1 Read file %b at (length|[0-9]+)|E2 Changed file %b|E3 Missing file %b)\n' % (
         (move.numbers.encode(),) * 3)
@@ -220,7 +216,7 @@ def sweep(refuser, folder, words, move, fault_of):
 
 def sweep_make(refuser, folder, kind, way, move):
     return sweep(refuser, folder, make_words(folder, kind, way), move,
-                 lambda came, after, _: fault_of_make(kind, way[0], move, came, after))
+                 lambda came, after, _: fault_of_make(kind, move, came, after))
 
 
 def sweep_after(refuser, folder, kind, way, move, has_out):
@@ -298,3 +294,100 @@ def test_a_file_that_moves_before_it_is_checked_after(program, folder):
             (cut, 'v2', ('streams', 2), True), (file_removed, 'v1', ('halves', 2), True),
             (grown, 'v2', ('streams', 2), False)]:
         sweep_after(refuser, folder / 'f', kind, way, move_of[act], has_out)
+
+
+# What is exchanged with a link: a folder, one in which it is, a file.
+EXCHANGED = ['d', 'd/e', 'd/e/f10', 'a']
+# Seconds between two exchanges, which are spent in waiting without sleep, but for the longest.
+PAUSES = [0, 0.00005, 0.001]
+EXCHANGE = 2
+NO_FOLDER = -100
+# What ends a run that met an exchange.
+MET = re.compile(rb'tor: (F2 NotRegular|F4 System|E1 Read file [0-9]+ at (length|[0-9]+)|E2 Changed file [0-9]+|'
+                 rb'E3 Missing file [0-9]+)\n')
+
+
+def alike(letter):
+    """Files of the same names and lengths, which have this letter."""
+    return tuple(sorted([((b'a',), letter * 70_000), *(((b'd', b'e', b'f%d' % number), letter * (number * 100))
+                                                      for number in range(20)), ((b'd', b'g'), letter)]))
+
+
+def lay_out_alike(folder, letter):
+    for path, content in alike(letter):
+        target = folder / os.fsdecode(b'/'.join(path))
+        target.parent.mkdir(parents=True, exist_ok=True)
+        target.write_bytes(content)
+
+
+def exchange_for_ever(one, other, pause):
+    """What the process does that exchanges the two, until it is ended."""
+    call = ctypes.CDLL(None, use_errno=True).renameat2
+    one, other = os.fsencode(one), os.fsencode(other)
+    while True:
+        call(NO_FOLDER, one, NO_FOLDER, other, EXCHANGE)
+        if pause >= 0.001:
+            time.sleep(pause)
+        else:
+            end = time.perf_counter() + pause
+            while time.perf_counter() < end:
+                pass
+
+
+class Exchanging:
+    """Exchanges what stands at a path of the folder with a link that leads to the same path outside."""
+
+    def __init__(self, folder, path, pause):
+        self.one, self.other, self.pause = folder / 'in' / path, folder / 'link', pause
+        if self.other.is_symlink():
+            self.other.unlink()
+        self.other.symlink_to(folder / 'out' / path)
+
+    def __enter__(self):
+        self.child = os.fork()
+        if self.child == 0:
+            try:
+                exchange_for_ever(self.one, self.other, self.pause)
+            finally:
+                os._exit(1)
+
+    def __exit__(self, *_):
+        os.kill(self.child, signal.SIGKILL)
+        os.waitpid(self.child, 0)
+        if self.one.is_symlink():
+            ctypes.CDLL(None).renameat2(NO_FOLDER, os.fsencode(self.one), NO_FOLDER, os.fsencode(self.other), EXCHANGE)
+
+
+def exchanges(program, folder, count):
+    """Makes torrents while each is exchanged, with each pause: how often what came of it."""
+    if not hasattr(ctypes.CDLL(None), 'renameat2'):
+        raise Skipped('it exchanges files by renameat2')
+    lay_out_alike(folder / 'in', b'i')
+    lay_out_alike(folder / 'out', b'o')
+    came = collections.Counter()
+    cases = [(path, pause, kind, way) for path in EXCHANGED for pause in PAUSES
+             for kind, way in zip(KINDS, [('one', 1), ('board', 2), ('streams', 2)])]
+    for number, (path, pause, kind, way) in enumerate(cases):
+        right = done(reference.make(alike(b'i'), Order(kind, False, b'f', BLOCK, None, False, 'one', 1, 1)))
+        words = make_words(folder / 'in', kind, way)
+        with Exchanging(folder, path, pause):
+            for _ in range((count + number) // len(cases)):
+                told = run(program, words)
+                if told != right and not (MET.fullmatch(told.err) and told.status in (1, 3) and not told.out):
+                    raise Failure(f'run     {shown_words(words)}\n{path} is exchanged each {pause} s\n'
+                                  f'came    {shown(told)}')
+                came[told.err.decode()[5:7]] += 1
+    return came
+
+
+def test_a_link_that_takes_the_place_of_a_file_or_a_folder(program, folder):
+    """No byte from outside comes into a torrent."""
+    came = exchanges(program, folder, 36 * 12)
+    if not came['F2'] or not came['']:
+        raise Failure(f'no exchange was met, or each time one: {came}')
+
+
+if __name__ == '__main__':
+    with tempfile.TemporaryDirectory(prefix='tor-tests-') as name:
+        came = exchanges(os.path.abspath(sys.argv[1]), Path(name), int((sys.argv[2:] or ['10000'])[0]))
+    print(', '.join(f'{count} {line or "right"}' for line, count in sorted(came.items())))

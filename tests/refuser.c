@@ -131,8 +131,10 @@ long sysconf(int what) {
     return next_sysconf(what);
 }
 
+/* Without a place it asks what a descriptor is open upon. */
 int statx(int folder, const char *place, int flags, unsigned mask, struct statx *answer) {
-    return refuses('s', folder, -1, place) ? -1 : syscall(SYS_statx, folder, place, flags, mask, answer);
+    if (refuses('s', folder, -1, *place ? place : NULL)) return -1;
+    return syscall(SYS_statx, folder, place, flags, mask, answer);
 }
 
 int openat(int folder, const char *place, int flags, ...) {
