@@ -2,6 +2,7 @@
 use crate::shared::path;
 use crate::source::memory::read;
 use crate::source::readers::{are_opened_once, gives_each};
+use crate::source::surveys::{finds_named, gives_what_was_listed, tells_all};
 use std::alloc::{AllocError, Global};
 use std::rt::Files;
 use std::{env, fs, io, process};
@@ -33,6 +34,12 @@ enum Case {
     Readers,
     /// Files that change after they were opened.
     Opened,
+    /// Files, and links to them, all found or refused.
+    Surveyed,
+    /// Some of them, which are named.
+    Named,
+    /// Files that change after they were listed.
+    Listed,
 }
 
 fn holds_in(rt: &HostRuntime, folder: &str, case: Case) -> io::Result<bool> {
@@ -41,6 +48,9 @@ fn holds_in(rt: &HostRuntime, folder: &str, case: Case) -> io::Result<bool> {
         Case::Reads => reads_regular_files(rt, folder),
         Case::Readers => gives_each(rt, folder),
         Case::Opened => are_opened_once(rt, folder),
+        Case::Surveyed => tells_all(rt, folder),
+        Case::Named => finds_named(rt, folder),
+        Case::Listed => gives_what_was_listed(rt, folder),
     }
 }
 
@@ -208,6 +218,9 @@ const CASES: &[(&str, Case)] = &[
     ("reads", Case::Reads),
     ("readers", Case::Readers),
     ("once", Case::Opened),
+    ("surveyed", Case::Surveyed),
+    ("named", Case::Named),
+    ("listed", Case::Listed),
 ];
 
 #[test]

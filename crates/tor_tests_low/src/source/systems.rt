@@ -1,12 +1,12 @@
 //! Scans and reads of a system that has what no test can make.
 use crate::shared::is;
 use crate::source::folders::{files_at, is_shown, is_system};
-use std::alloc::{Allocator, Global};
+use std::alloc::{AllocError, Allocator, Global};
 use std::fs::{File, Metadata, OpenOptions};
 use std::io;
 use std::io::{Cursor, Read};
 use std::rt::Files;
-use tor_source::{FolderSource, Source};
+use tor_source::{FolderSource, Refused, Source};
 
 // A system that has what no test can make: in its folder `top` are these names, each ended by a zero byte. A name that
 // ends in `file` is a file that may not be opened, in `folder` an empty folder, in `locked` a folder that may not be
@@ -155,6 +155,41 @@ fn gives(rt: &HostRuntime, path: &str, names: &[u8], breaks: bool, wanted: &str)
     }
 }
 
+// The bytes of each path, a colon, the fault of a scan that meets it, and a bar.
+fn refusals_shown(alloc: Global, refused: &[Refused]) -> Result<Vec<u8>, AllocError> {
+    let mut text = Vec::new(alloc);
+    for one in refused {
+        let fault = format!(in alloc; ":{}|", one.refusal.fault())?;
+        text.extend_from_slice(&one.path)?;
+        text.extend_from_slice(fault.as_bytes())?;
+    }
+    Ok(text)
+}
+
+// Whether a survey of `top` takes the paths that are shown so, and refuses what is shown so.
+fn is_survey(system: &Listed, taken: &str, refused: &[u8]) -> bool {
+    let alloc = system.alloc();
+    match FolderSource::survey(system, alloc, "top") {
+        Ok(survey) => {
+            is_shown(alloc, &survey.paths, taken.as_bytes())
+                && matches!(refusals_shown(alloc, &survey.refused), Ok(text) if text.as_slice() == refused)
+        }
+        Err(_) => false,
+    }
+}
+
+fn surveys_what_is_hard_to_make(rt: &HostRuntime) -> bool {
+    let names = b"\xff\0a file\0b fifo\0c locked\0d hidden\0e folder\0f file\0";
+    match system_of(rt, names, false) {
+        Ok(system) => is_survey(
+            &system,
+            "/a file /f file ",
+            b"b fifo:F2 NotRegular|c locked:F4 System|d hidden:F4 System|\xff:F1 NotUtf8|",
+        ),
+        Err(_) => false,
+    }
+}
+
 fn is_one_below_the_empty_place(rt: &HostRuntime) -> bool {
     matches!(files_at(rt, "", &["proc"]), Ok(source) if source.count() == 1)
 }
@@ -212,6 +247,7 @@ fn answers_the_first_fault_in_the_order_of_names(rt: HostRuntime) {
         assert!(rt; gives(&rt, place, names, *breaks, wanted));
     }
     assert!(rt; tells_faults_of_the_system(&rt));
+    assert!(rt; surveys_what_is_hard_to_make(&rt));
 }
 
 #[test]
