@@ -20,4 +20,6 @@ pub mod SourceFaults
 pub mod Made
 pub mod InfoThere
 pub mod MadeIsValid
+mod LinkTexts
+mod PieceLengths
 pub mod ProvedLaws

@@ -11,5 +11,7 @@ pub mod FedIntake
 pub mod FromInput
 pub mod Hashes
 pub mod Judged
+pub mod LinkWords
+pub mod PieceLength
 pub mod Rows
 pub mod steps

@@ -1,8 +1,11 @@
 //! Laws over the definitions alone.
-ghost use Rattle.std.specs.Prelude.{◌≡◌, ℕ, All, List, None, map};
+ghost use Rattle.std.specs.Int.{div_ceil};
+ghost use Rattle.std.specs.Prelude.{◌≡◌, ◌⊎◌, ◌≤◌, ◌<◌, ◌^◌, ℕ, All, List, None, map};
 ghost use Rattle.std.specs.List.Sorted.{IsPermutation, IsStrictlySortedBy};
 ghost use Rattle.tor_bencode.specs.Data.{Data};
 ghost use Rattle.tor_meta.specs.Contents.{IsMadeOf};
+ghost use Rattle.tor_merkle.specs.Layer.{IsPieceLength};
+ghost use Rattle.tor_meta.specs.PieceLength.{auto_piece_length};
 ghost use Rattle.tor_meta.specs.Refusal.{contents_refusal};
 ghost use Rattle.tor_meta.specs.declared.order.TheConstants.{MAX_SPAN};
 ghost use Rattle.tor_spec.specs.Facts.{File};
@@ -26,4 +29,13 @@ pub fn what_is_made_is_valid()
 /// The limit of the pieces of a unit of work.
 pub fn limit_of_spans()
     ensures { MAX_SPAN ≡ 1024 }
+{}
+
+/// What the chosen piece length is: allowed, and longer for more bytes, if it changes at all. Contents of at most 2^50
+/// bytes have at most 2^21 pieces of it, but for those from 2^49 bytes on that get pieces of 2^28.
+pub fn auto_piece_lengths()
+    ensures allowed { (size : ℕ) → IsPieceLength (auto_piece_length size) }
+    ensures grows { (one more : ℕ) → one ≤ more → auto_piece_length one ≤ auto_piece_length more }
+    ensures few { (size : ℕ) → size ≤ 2 ^ 50 → (div_ceil size (auto_piece_length size) ≤ 2 ^ 21)
+        ⊎ ((auto_piece_length size ≡ 2 ^ 28) × (2 ^ 49 < size)) }
 {}

@@ -18,7 +18,8 @@
 //! - [`ContentsError`] (`refusals.rt`): why there is no torrent of files in memory.
 //! - `sums.rt`: the Merkle trees and the SHA-1 of the pieces, as far as a kind asks for them.
 //! - `torrent.rt`: from files and sums to bytes, by `info.rt`, `layers.rt` and `items.rt`.
-//! - [`Hashes`], [`info_hashes`], [`magnet`] (`hashes.rt`); [`write_out`] (`output.rt`): all bytes into a writer.
+//! - [`Hashes`], [`info_hashes`], [`magnet`] (`hashes.rt`), [`magnet_with`] (`link_words.rt`); [`write_out`]
+//!   (`output.rt`): all bytes into a writer.
 //! - [`laws`] (`laws.rt`): what is made is valid, and the limit of a span.
 //!
 //! ```rust
@@ -52,12 +53,14 @@ mod items;
 mod judge;
 pub mod laws;
 mod layers;
+mod link_words;
 mod list_refusal;
 mod listed_files;
 mod make_error;
 mod making;
 mod order;
 mod output;
+mod piece_length;
 mod refusals;
 mod sums;
 mod torrent;
@@ -70,9 +73,11 @@ pub use from_source::{make, make_with};
 pub use from_streams::{make_streams, make_streams_with};
 pub use hashes::{Hashes, info_hashes, magnet};
 pub use head::Head;
+pub use link_words::magnet_with;
 pub use list_refusal::refusal_of_list;
 pub use make_error::MakeError;
 pub use making::make_fed;
 pub use order::{MAX_SPAN, Order};
 pub use output::{WriteFault, write_out};
+pub use piece_length::auto_piece_length;
 pub use refusals::ContentsError;
