@@ -149,7 +149,7 @@ def test_program_that_starts(program, folder):
     clone = Clone(folder, Path(program).read_bytes())
     place = clone.run('tor', '--where').out.decode().strip()
     expect_equal('the program', True, Path(place).read_bytes() == Path(program).read_bytes())
-    clone.expect(Told(0, b'tor 1.0.0\n', b''), 'tor', '--version')
+    clone.expect(Told(0, b'tor 1.1.0\n', b''), 'tor', '--version')
     clone.expect(Told(3, b'', b'tor: read fault\n'), 'tor', 'check', str(folder / 'absent'))
     clone.expect(Told(1, b'', b'tor: N3 DotDot\n'), 'tor', 'make', '--name', '..', data=b'ab')
     shutil.rmtree(clone.root / 'out')
@@ -237,7 +237,7 @@ def test_packages(program, folder):
     for place in 'one', 'two':
         subprocess.run([ROOT / 'dist/package', folder / place], check=True, stdout=subprocess.DEVNULL)
     made = sorted(path.name for path in (folder / 'one').iterdir())
-    expect_equal('the packages', ['plovercasket-1.0.0-x86_64-linux.tar.gz', 'plovercasket_1.0.0_amd64.deb'], made)
+    expect_equal('the packages', ['plovercasket-1.1.0-x86_64-linux.tar.gz', 'plovercasket_1.1.0_amd64.deb'], made)
     for name in made:
         expect_equal(name, True, (folder / 'one' / name).read_bytes() == (folder / 'two' / name).read_bytes())
     subprocess.run(['tar', '-xzf', folder / 'one' / made[0], '-C', folder], check=True)
@@ -245,6 +245,6 @@ def test_packages(program, folder):
     subprocess.run([unpacked / 'install', folder / 'prefix'], check=True, stdout=subprocess.DEVNULL)
     packed = {path.read_bytes() for path in (unpacked / 'programs').iterdir()}
     expect_equal('the program is in the archive', True, (folder / 'prefix/bin/tor').read_bytes() in packed)
-    expect_equal('its version', b'tor 1.0.0\n', subprocess.check_output([folder / 'prefix/bin/tor', '--version']))
+    expect_equal('its version', b'tor 1.1.0\n', subprocess.check_output([folder / 'prefix/bin/tor', '--version']))
     listed = subprocess.check_output(['dpkg-deb', '-c', folder / 'one' / made[1]]).split()
     expect_equal('the command', True, b'./usr/bin/plovercasket' in listed and wanted != b'')

@@ -11,14 +11,15 @@ _tor_options() {
     esac
 }
 
-# What an option has for a value: words, `files`, or `any`. Nothing where it has none.
+# What an option of a command has for a value: words, `files`, or `any`. Nothing where it has none.
 _tor_value() {
+    case $2$1 in magnet--name) return ;; esac
     case $1 in
         --kind) echo 'v1 v2 hybrid' ;;
         --how) echo 'one halves board streams' ;;
         --attrs | --out) echo files ;;
-        --workers) echo auto ;;
-        --name | --piece-length | --announce | --span) echo any ;;
+        --workers | --piece-length) echo auto ;;
+        --name | --announce | --span) echo any ;;
     esac
 }
 
@@ -49,7 +50,7 @@ _tor() {
             continue
         elif [[ -n $option ]]; then
             option=''
-        elif [[ -n $command && -n $(_tor_value "$before") ]]; then
+        elif [[ -n $command && -n $(_tor_value "$before" "$command") ]]; then
             option=$before
         elif [[ $before == -* ]]; then
             continue
@@ -64,10 +65,10 @@ _tor() {
     fi
     COMPREPLY=()
     if [[ -n $option ]]; then
-        case $(_tor_value "$option") in
+        case $(_tor_value "$option" "$command") in
             files) _tor_files "$word" ;;
             any) ;;
-            *) _tor_words "$(_tor_value "$option")" "$word" ;;
+            *) _tor_words "$(_tor_value "$option" "$command")" "$word" ;;
         esac
     elif [[ $word == -* ]]; then
         _tor_words "$(_tor_options "$command")" "$word"

@@ -20,7 +20,7 @@ complete -c tor -n __fish_use_subcommand -a help -d 'print help'
 complete -c tor -n '__tor_at help 2' -a 'make check magnet prove verify recheck help'
 
 complete -c tor -n '__fish_seen_subcommand_from make' -l name -x -d 'the name of the torrent'
-complete -c tor -n '__fish_seen_subcommand_from make' -l piece-length -x -d 'bytes in a piece'
+complete -c tor -n '__fish_seen_subcommand_from make' -l piece-length -x -a auto -d 'bytes in a piece'
 complete -c tor -n '__fish_seen_subcommand_from make' -l kind -x -a 'v1 v2 hybrid' -d 'which clients can use it'
 complete -c tor -n '__fish_seen_subcommand_from make' -l announce -x -d 'the URL of the tracker'
 complete -c tor -n '__fish_seen_subcommand_from make' -l private -d 'peers are to come from the tracker alone'
@@ -35,6 +35,8 @@ complete -c tor -n '__fish_seen_subcommand_from make' -F
 
 complete -c tor -n '__fish_seen_subcommand_from check' -l null -d 'paths alone, each ended by a zero byte'
 complete -c tor -n '__fish_seen_subcommand_from check' -l json -d 'one object of JSON'
+complete -c tor -n '__fish_seen_subcommand_from magnet' -l name -d 'the name of the torrent too'
+complete -c tor -n '__fish_seen_subcommand_from magnet' -l trackers -d 'the URL of its tracker too'
 complete -c tor -n '__fish_seen_subcommand_from recheck' -l files -d 'tell of each file'
 complete -c tor -n '__fish_seen_subcommand_from recheck' -l bad -d 'tell of each file that is not whole'
 complete -c tor -n '__fish_seen_subcommand_from recheck' -l null -d 'with --bad, paths alone, each ended by a zero byte'

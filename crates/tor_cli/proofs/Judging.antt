@@ -12,7 +12,6 @@ use Rattle.tor_meta.specs.declared.hashes.Hashes.{Hashes}
 use Rattle.tor_spec.specs.valid.Conditions.{IsTorrentOf, InfoShape, RootShape, conditions, holds, refusal_of}
 use Rattle.tor_spec.specs.valid.Heads.{lacks_dictionary}
 use Rattle.tor_spec.specs.valid.Parts.{info_of}
-use Rattle.tor_spec.specs.valid.View.{View}
 use Rattle.tor_tree.specs.declared.kinds.Kind.{Kind}
 use Rattle.tor_tree.specs.declared.kinds.Kind.TheVariants.{V1, V2, Hybrid}
 use Rattle.tor_cli.specs.Foreign.{IsNoTorrent, StopsTelling}
@@ -88,7 +87,7 @@ no_torrent bytes refusals.Alignment why = (why, λ same. cc)
 no_torrent bytes refusals.AttrDiffer why = (why, λ same. cc)
 no_torrent bytes refusals.Memory why = tt
 
-module _ (lines : View → Hashes → List ℕ) (s : Streams) (untouched : IsUntouched s) where
+module _ (lines : Data → Hashes → List ℕ) (s : Streams) (untouched : IsUntouched s) where
   -- a fault of reading, before anything was written
   pub stops_reading : (fault : InputFault) → StopsTelling lines s (of_input_fault fault)
   stops_reading inputs.Read = untouched

@@ -13,12 +13,9 @@ option_of name = record (new_rule name) { long = Some name; value_names = 1 }
 abbrev pub name_option : Rule
 name_option = record (option_of (codes "name")) { required = true }
 
--- a number of 64 bits
+-- a number of bytes, or `auto`
 abbrev pub piece_length_option : Rule
-piece_length_option = record (option_of (codes "piece-length")) {
-  parser = Some (Unsigned 0 18446744073709551615);
-  defaults = codes "262144" ∷ [];
-}
+piece_length_option = record (option_of (codes "piece-length")) { defaults = codes "262144" ∷ [] }
 
 -- a word among some
 abbrev pub AreWords : List (List ℕ) → ValueParser → Type 0
@@ -107,12 +104,11 @@ argument_of name number = record (new_rule name) { index = Some number; value_na
 abbrev pub number_of : List ℕ → ℕ → Rule
 number_of name number = record (argument_of name number) { parser = Some (Unsigned 0 18446744073709551615) }
 
--- the command of this name over one torrent
-abbrev pub file_rules : List Rule
-file_rules = argument_of (codes "file") 1 ∷ []
+abbrev pub magnet_rules : List Rule
+magnet_rules = flag_of (codes "name") ∷ flag_of (codes "trackers") ∷ argument_of (codes "file") 1 ∷ []
 
-abbrev pub file_app : List ℕ → App
-file_app name = with_rules (new_app name) file_rules
+abbrev pub magnet_app : App
+magnet_app = with_rules (new_app (codes "magnet")) magnet_rules
 
 abbrev pub prove_rules : List Rule
 prove_rules = argument_of (codes "file") 1 ∷ number_of (codes "file-number") 2 ∷ number_of (codes "index") 3 ∷ []
@@ -148,7 +144,7 @@ with_commands app (command ∷ commands) = with_commands (with_subcommand app co
 
 -- the commands over whole torrents, and those over single pieces
 abbrev pub torrent_apps : ValueParser → ValueParser → List App
-torrent_apps kinds hows = make_app kinds hows ∷ check_app ∷ file_app (codes "magnet") ∷ []
+torrent_apps kinds hows = make_app kinds hows ∷ check_app ∷ magnet_app ∷ []
 
 abbrev pub piece_apps : List App
 piece_apps = prove_app ∷ verify_app ∷ recheck_app ∷ []

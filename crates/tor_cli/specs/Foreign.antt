@@ -17,17 +17,19 @@ use Rattle.tor_source.specs.declared.input.TheConstants.{MAX_INPUT_LENGTH}
 use Rattle.tor_cli.specs.declared.fault.Fault.{Fault}
 use Rattle.tor_cli.specs.declared.fault.Fault.TheVariants.{Refused, Read, TooLong, Write, Resources}
 
--- the bytes are a torrent, which describes this, and has these info hashes (profile)
-pub record IsTorrentWith (bytes : List ℕ) (view : View) (hashes : Hashes) : Type 0 where
-  pub root : Data
+-- the bytes are the torrent that this tree is, which has these info hashes (profile)
+pub record IsTorrentWith (bytes : List ℕ) (root : Data) (hashes : Hashes) : Type 0 where
   pub torrent : IsTorrentOf root bytes
-  pub described : view ≡ view_of root
   pub hashed : AreInfoHashes (kind_of (info_of root)) (spelling (info_of root)) hashes
 
+-- the bytes are a torrent, which describes this, and has these info hashes (profile)
+abbrev pub Describes : List ℕ → View → Hashes → Type 0
+Describes bytes view hashes = (root : Data) × (view ≡ view_of root) × IsTorrentWith bytes root hashes
+
 -- the bytes are a torrent, and the text is its lines (profile)
-abbrev pub AreLinesOf : (View → Hashes → List ℕ) → List ℕ → List ℕ → Type 0
+abbrev pub AreLinesOf : (Data → Hashes → List ℕ) → List ℕ → List ℕ → Type 0
 AreLinesOf lines bytes text =
-    (view : View) × (hashes : Hashes) × IsTorrentWith bytes view hashes × (text ≡ lines view hashes)
+    (root : Data) × (hashes : Hashes) × IsTorrentWith bytes root hashes × (text ≡ lines root hashes)
 
 -- why the bytes are no torrent. Want of memory is no refusal (profile)
 abbrev pub IsNoTorrent : List ℕ → Fault → Type 0
@@ -40,15 +42,15 @@ abbrev pub OfSome : (List ℕ → Type 0) → Type 0
 OfSome Holds = (bytes : List ℕ) × (length bytes ≤ MAX_INPUT_LENGTH) × Holds bytes
 
 -- the lines of a torrent, of which this holds
-abbrev pub TellsOfSome : (View → Hashes → List ℕ) → (List ℕ → Type 0) → Type 0
+abbrev pub TellsOfSome : (Data → Hashes → List ℕ) → (List ℕ → Type 0) → Type 0
 TellsOfSome lines Holds = OfSome (λ bytes. (text : List ℕ) × AreLinesOf lines bytes text × Holds text)
 
 -- what is written of the torrent that some bytes are. It is the lines of a torrent, and nothing else (profile)
-abbrev pub DoesTell : (View → Hashes → List ℕ) → Streams → Type 0
+abbrev pub DoesTell : (Data → Hashes → List ℕ) → Streams → Type 0
 DoesTell lines s = (s.reader' ≡ s.reader) × TellsOfSome lines (Appends s.writer s.writer')
 
 -- if this fault stopped it (profile)
-abbrev pub StopsTelling : (View → Hashes → List ℕ) → Streams → Fault → Type 0
+abbrev pub StopsTelling : (Data → Hashes → List ℕ) → Streams → Fault → Type 0
 StopsTelling lines s (Refused refusal) = OfSome (λ bytes. IsNoTorrent bytes (Refused refusal)) × IsUntouched s
 StopsTelling lines s Read = IsUntouched s
 StopsTelling lines s TooLong = IsUntouched s

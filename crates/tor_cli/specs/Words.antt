@@ -1,7 +1,6 @@
 -- What the words of the command line ask for.
-use Rattle.std.specs.Prelude.{◌≡◌, ◌⊎◌, ◌≤◌, ℕ, Bool, true, false, List, ◌++◌, Option, Some, option_map, codes}
+use Rattle.std.specs.Prelude.{◌≡◌, ◌⊎◌, ◌≤◌, ℕ, Bool, true, false, List, ◌++◌, Option, Some, IsSome, option_map, codes}
 use Rattle.std.specs.Prelude.{string_bytes}
-use Rattle.std.specs.Borrow.{Bor}
 use Rattle.std.specs.Str.Parse.{IsNumeral, digits_value, without_leading_plus}
 use Rattle.clap.specs.Values.{bool_text}
 use Rattle.clap.specs.Words.{Row, first_of, one_of, subcommand_of}
@@ -11,8 +10,10 @@ use Rattle.tor_tree.specs.declared.kinds.Kind.TheVariants.{V1, V2, Hybrid}
 use Rattle.tor_sums.specs.declared.how.How.{How}
 use Rattle.tor_sums.specs.declared.how.How.TheVariants.{One, Halves, Board}
 use Rattle.tor_sums.specs.declared.how.TheConstants.{MAX_WORKERS}
+use Rattle.tor_meta.specs.PieceLength.{auto_piece_length}
 use Rattle.tor_cli.specs.CommandLine.{AreHows, AreKinds, tor_app}
 use Rattle.tor_cli.specs.declared.check.words.CheckOptions.{CheckOptions}
+use Rattle.tor_cli.specs.declared.check.link.MagnetOptions.{MagnetOptions}
 use Rattle.tor_cli.specs.declared.command.Request.{Request}
 use Rattle.tor_cli.specs.declared.command.Request.TheVariants.{Show, Make, Check, Magnet, Prove, Verify, Recheck}
 use Rattle.tor_cli.specs.declared.fault.Fault.{Fault}
@@ -27,6 +28,8 @@ use Rattle.tor_cli.specs.declared.proof.words.VerifyOptions.{VerifyOptions}
 use Rattle.tor_cli.specs.declared.recheck.words.RecheckOptions.{RecheckOptions}
 use Rattle.tor_cli.specs.declared.check.telling.Telling.{Telling}
 use Rattle.tor_cli.specs.declared.check.telling.Telling.TheVariants.{Lines, Paths, Record}
+use Rattle.tor_cli.specs.declared.make.piece_length.PieceLength.{PieceLength}
+use Rattle.tor_cli.specs.declared.make.piece_length.PieceLength.TheVariants.{Auto, Bytes}
 use Rattle.tor_cli.specs.declared.make.way.Way.{Way}
 use Rattle.tor_cli.specs.declared.make.way.Way.TheVariants.{Shared, Streams}
 
@@ -70,6 +73,20 @@ abbrev pub IsWorkersIn : List Row → (ℕ → Type 0) → Type 0
 IsWorkersIn rows Holds = (text : List ℕ) × (workers : ℕ) × (first_of (codes "workers") rows ≡ Some text)
     × AreWorkers text workers × Holds workers
 
+-- a word asks for this piece length. It is the number of bytes, or `auto` (profile)
+abbrev pub IsLengthWord : List ℕ → PieceLength → Type 0
+IsLengthWord text (Bytes length) = IsNumber text (λ number. length ≡ number)
+IsLengthWord text Auto = text ≡ codes "auto"
+
+-- the option `--piece-length` asks for this
+abbrev pub IsLengthIn : List Row → PieceLength → Type 0
+IsLengthIn rows length = (text : List ℕ) × (first_of (codes "piece-length") rows ≡ Some text) × IsLengthWord text length
+
+-- the bytes of a piece of contents of so many bytes
+abbrev pub length_for : PieceLength → ℕ → ℕ
+length_for (Bytes length) size = length
+length_for Auto size = auto_piece_length size
+
 -- the flag was given, or not
 abbrev pub IsFlag : List Row → List ℕ → Bool → Type 0
 IsFlag rows name given = one_of name rows ≡ Some (bool_text given)
@@ -78,8 +95,8 @@ IsFlag rows name given = one_of name rows ≡ Some (bool_text given)
 pub record AreOptionsIn (rows : List Row) (options : MakeOptions) : Type 0 where
   pub kind : first_of (codes "kind") rows ≡ Some (word_of options.kind)
   pub name : first_of (codes "name") rows ≡ Some options.name.now
-  pub piece_length : (text : List ℕ) → one_of (codes "piece-length") rows ≡ Some text
-      → IsNumber text (λ number. options.piece_length ≡ number)
+  pub piece_length : IsLengthIn rows options.piece_length
+  pub has_files : options.piece_length ≡ Auto → IsSome (first_of (codes "path") rows)
   pub announce : first_of (codes "announce") rows ≡ option_map (λ url. url.now) options.announce
   pub is_private : one_of (codes "private") rows ≡ Some (codes "true") → options.is_private ≡ true
   pub is_public : one_of (codes "private") rows ≡ Some (codes "false") → options.is_private ≡ false
@@ -104,9 +121,11 @@ pub record IsCheckIn (options : CheckOptions) (rows : List Row) : Type 0 where
   pub telling : (null json : Bool) → IsFlag rows (codes "null") null → IsFlag rows (codes "json") json
       → options.telling ≡ telling_of null json
 
--- they ask for this file. It is that of a command over one torrent (profile)
-abbrev pub IsFileIn : Bor (List ℕ) → List Row → Type 0
-IsFileIn place rows = first_of (codes "file") rows ≡ Some place.now
+-- they ask for the link of this torrent, with these words in it (profile)
+pub record IsMagnetIn (options : MagnetOptions) (rows : List Row) : Type 0 where
+  pub torrent : first_of (codes "file") rows ≡ Some options.torrent.now
+  pub name : (given : Bool) → IsFlag rows (codes "name") given → options.words.name ≡ given
+  pub tracker : (given : Bool) → IsFlag rows (codes "trackers") given → options.words.tracker ≡ given
 
 -- they ask for a proof of this piece (profile)
 pub record IsPieceIn (options : ProveOptions) (rows : List Row) : Type 0 where
@@ -159,7 +178,7 @@ abbrev pub Asks : List (List ℕ) → Request → Type 0
 Asks words (Show text) = Unit {0}
 Asks words (Make options) = HasCommand words (codes "make") (λ rows. AreOptionsIn rows options)
 Asks words (Check options) = HasCommand words (codes "check") (IsCheckIn options)
-Asks words (Magnet torrent) = HasCommand words (codes "magnet") (IsFileIn torrent)
+Asks words (Magnet options) = HasCommand words (codes "magnet") (IsMagnetIn options)
 Asks words (Prove options) = HasCommand words (codes "prove") (IsPieceIn options)
 Asks words (Verify options) = HasCommand words (codes "verify") (IsProofIn options)
 Asks words (Recheck options) = HasCommand words (codes "recheck") (IsRecheckIn options)

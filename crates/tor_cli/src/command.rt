@@ -8,16 +8,17 @@ ghost use Rattle.tor_cli.specs.CommandLine.{AreHows, AreKinds, piece_apps, tor_a
 ghost use Rattle.tor_cli.specs.Words.{Asks, IsOfWords};
 ghost use Rattle.tor_cli.specs.steps.Found.{IsFoundIn};
 
+use crate::check::link::{MagnetOptions, magnet_command, magnet_options};
 use crate::check::words::{CheckOptions, check_command, check_options};
 use crate::fault::Fault;
-use crate::make::options::{MakeOptions, make_options};
+use crate::make::options::{MakeOptions, make_options, piece_length_in};
+use crate::make::piece_length::piece_length_fault;
 use crate::make::words::make_command;
 use crate::proof::words::{
     ProveOptions, VerifyOptions, prove_command, prove_options, verify_command, verify_options,
 };
 use crate::recheck::words::{RecheckOptions, recheck_command, recheck_options};
 use crate::text::escape::escaped;
-use crate::torrent_words::{file_command, file_of};
 use crate::workers::workers_fault;
 use clap::error::ErrorKind;
 use clap::{ArgMatches, Command};
@@ -29,9 +30,6 @@ const MORE: &str = "\
 Status: 0 done; 1 refused, answered by no, or not all pieces are there; 2 usage; 3 a read or write fault;
 4 memory or a thread refused. More: man tor";
 
-// What the help says of this command.
-const MAGNET: &str = "Prints the magnet link of a torrent";
-
 /// What the words ask for.
 #[derive(Drop)]
 pub enum Request<'a> {
@@ -40,8 +38,8 @@ pub enum Request<'a> {
     Make(MakeOptions<'a>),
     /// To tell what a torrent describes.
     Check(CheckOptions<'a>),
-    /// To print the magnet link of the torrent in this file.
-    Magnet(&'a str),
+    /// To print a torrent's magnet link.
+    Magnet(MagnetOptions<'a>),
     /// To print the proof of a piece.
     Prove(ProveOptions<'a>),
     /// To tell whether a proof of a piece holds.
@@ -72,7 +70,7 @@ fn tor_command<'a>(alloc: Global) -> Result<Command<'a>, AllocError>
         × (app_of command ≡ tor_app kinds hows)) }
 {
     let top = Command::new(alloc, "tor")
-        .version("1.0.0")
+        .version("1.1.0")
         .about("Makes, checks and rechecks BitTorrent metainfo files, and proves single pieces")
         .after_help(MORE)
         .subcommand_required(true)
@@ -88,7 +86,7 @@ fn add_torrent_commands<'a>(alloc: Global, command: Command<'a>) -> Result<Comma
 {
     let making = with_command(command, make_command(alloc))?;
     let checking = with_command(making, check_command(alloc))?;
-    with_command(checking, file_command(alloc, "magnet", MAGNET))
+    with_command(checking, magnet_command(alloc))
 }
 
 /// Adds the commands over single pieces.
@@ -127,10 +125,13 @@ fn request_of<'a, T: Threads>(
     }
 }
 
-/// What is wrong with words that `clap` let through: their number of workers.
+/// What is wrong with words that `clap` let through: their piece length, or their number of workers.
 fn unread(alloc: Global, matches: &ArgMatches<'_>) -> Result<Fault, AllocError>
     ensures { IfOk result IsOfWords }
 {
+    if let Some(word) = unread_length(matches) {
+        return piece_length_fault(alloc, word);
+    }
     if let Some(word) = workers_word(matches, "make") {
         return workers_fault(alloc, word, "tor make");
     }
@@ -138,6 +139,15 @@ fn unread(alloc: Global, matches: &ArgMatches<'_>) -> Result<Fault, AllocError>
         return workers_fault(alloc, word, "tor recheck");
     }
     Fault::usage(alloc, "no command", "tor")
+}
+
+/// The word for the piece length, if it asks for none.
+fn unread_length<'a>(matches: &ArgMatches<'a>) -> Option<&'a str> {
+    let make = matches.subcommand_matches("make")?;
+    match piece_length_in(make) {
+        Some(_) => None,
+        None => make.get_str("piece-length"),
+    }
 }
 
 fn workers_word<'a>(matches: &ArgMatches<'a>, command: &str) -> Option<&'a str> {
@@ -155,7 +165,7 @@ fn request_in<'a, T: Threads>(rt: &T, matches: &ArgMatches<'a>) -> Option<Reques
         return Some(Request::Check(check_options(check)?));
     }
     if let Some(magnet) = matches.subcommand_matches("magnet") {
-        return Some(Request::Magnet(file_of(magnet)?));
+        return Some(Request::Magnet(magnet_options(magnet)?));
     }
     request_of_pieces(rt, matches)
 }

@@ -82,7 +82,12 @@ fn perform<T: Threads + Wait + Sync + Send + Clone + Drop + 'static, R: Read, W:
             options.telling,
             out,
         )),
-        Request::Magnet(torrent) => done(tell_torrent(system, torrent, Telling::Link, out)),
+        Request::Magnet(options) => done(tell_torrent(
+            system,
+            options.torrent,
+            Telling::Link(options.words),
+            out,
+        )),
         Request::Prove(options) => done(prove(system, options, out)),
         Request::Verify(options) => verify(system, options, out),
         Request::Recheck(options) => recheck(rt, system, options, out, shows_progress),

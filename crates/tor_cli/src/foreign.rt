@@ -1,7 +1,7 @@
 //! A torrent in a file of the system: its bytes, and what they are judged to be.
 ghost use Rattle.std.specs.Prelude.{◌≤◌, IfErr, IfOk, vec_len};
 ghost use Rattle.tor_check.specs.Valid.{IsRefusedFor};
-ghost use Rattle.tor_cli.specs.Foreign.{IsTorrentWith};
+ghost use Rattle.tor_cli.specs.Foreign.{Describes};
 ghost use Rattle.tor_source.specs.declared.input.TheConstants.{MAX_INPUT_LENGTH};
 
 use std::alloc::Global;
@@ -30,7 +30,7 @@ pub fn read_file<H: Files>(alloc: Global, system: &H, place: &str) -> Result<Vec
 
 /// What the torrent describes that the bytes are, and its info hashes; or why they are none.
 pub fn torrent_with_hashes(alloc: Global, bytes: &[u8]) -> Result<Judged, Refusal>
-    ensures accepted { IfOk result (λ judged. IsTorrentWith bytes.now judged.torrent judged.hashes) }
+    ensures accepted { IfOk result (λ judged. Describes bytes.now judged.torrent judged.hashes) }
     ensures refused { IfErr result (IsRefusedFor bytes.now) }
 {
     match validate(alloc, bytes) {

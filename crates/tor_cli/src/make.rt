@@ -1,6 +1,7 @@
 //! The command `make`.
 //!
 //! - `command.rt`: the command; `words.rt`: its words; `options.rt`: what they ask for; `way.rt`: who hashes.
+//! - `piece_length.rt`: how long pieces are to be.
 //! - `from_place.rt`: the torrent of a file or a folder. `attrs_file.rt`: the letters of its files; `attrs_text.rt`:
 //!   the text that has them, read.
 //! - `check_after.rt`: whether its files have each piece of it afterwards. `out_file.rt`: the file that a torrent goes
@@ -13,5 +14,6 @@ pub(crate) mod command;
 mod from_place;
 pub(crate) mod options;
 mod out_file;
+pub(crate) mod piece_length;
 mod way;
 pub(crate) mod words;

@@ -1,26 +1,13 @@
-//! The words of `tor magnet FILE`, and those of which several commands have some.
-ghost use Rattle.clap.specs.Words.{Rule, app_of, found_of, new_app, rows_of, rule_of};
-ghost use Rattle.std.specs.Prelude.{◌≡◌, ◌∷◌, [], IfOk, IfSome, List, codes, false};
-ghost use Rattle.tor_cli.specs.CommandLine.{argument_of, file_app, flag_bound, flag_of, option_of, with_rules};
+//! Words of which several commands have some.
+ghost use Rattle.clap.specs.Words.{Rule, app_of, new_app, rule_of};
+ghost use Rattle.std.specs.Prelude.{◌≡◌, ◌∷◌, [], IfOk, List, codes, false};
+ghost use Rattle.tor_cli.specs.CommandLine.{argument_of, flag_bound, flag_of, option_of, with_rules};
 ghost use Rattle.tor_cli.specs.CommandLine.{workers_option};
-ghost use Rattle.tor_cli.specs.Words.{IsFileIn};
 ghost use Rattle.tor_cli.specs.steps.Bound.{shut_out_by, wanted_by};
 ghost use Rattle.tor_cli.specs.steps.Rules.{HaveRules};
 
-use clap::{Arg, ArgAction, ArgMatches, Command};
+use clap::{Arg, ArgAction, Command};
 use std::alloc::{AllocError, Global};
-
-/// The command of this name, of which the help tells so much.
-pub fn file_command<'a>(
-    alloc: Global,
-    name: &'a str,
-    about: &'a str,
-) -> Result<Command<'a>, AllocError>
-    ensures { IfOk result (λ command. app_of command ≡ file_app name.now) }
-{
-    let words = vec![in alloc; argument_of(alloc, "file", 1, "FILE", "The file with the torrent")]?;
-    command_with(alloc, name, about, words)
-}
 
 /// The command of this name, of which the help tells so much, with these words.
 pub fn command_with<'a>(
@@ -41,13 +28,6 @@ pub fn with_words<'a>(command: Command<'a>, words: Vec<Arg<'a>>) -> Result<Comma
         IfOk result (λ added. app_of added ≡ with_rules (app_of command.entry) rules) }
 {
     command.args(words)
-}
-
-/// The file that stands in the words; none if `clap` let through words that have none.
-pub fn file_of<'a>(matches: &ArgMatches<'a>) -> Option<&'a str>
-    ensures { IfSome result (λ place. IsFileIn place (rows_of (found_of matches.now))) }
-{
-    matches.get_str("file")
 }
 
 /// The word of this number, from 1, which has to be there.

@@ -27,7 +27,7 @@ use Rattle.tor_cli.specs.recheck.Recheck.{DoesRecheck, StopsRechecking}
 use Rattle.tor_cli.specs.Status.{status_of}
 use Rattle.tor_cli.specs.Streams.{IsUntouched, Streams}
 use Rattle.tor_cli.specs.check.Telling.{lines_of}
-use Rattle.tor_cli.specs.Words.{Asks, IsOfWords, how_of}
+use Rattle.tor_cli.specs.Words.{Asks, IsOfWords, how_of, length_for}
 use Rattle.tor_source.specs.declared.input.TheConstants.{MAX_INPUT_LENGTH}
 use Rattle.tor_source.specs.declared.input.InputFault.{InputFault}
 use Rattle.tor_source.specs.declared.input.InputFault.TheVariants as inputs
@@ -42,21 +42,23 @@ use Rattle.tor_cli.specs.declared.fault.Fault.{Fault}
 use Rattle.tor_cli.specs.declared.fault.Fault.TheVariants.{Usage, Name, Scan, Make, Refused, Piece, Recheck, Argument}
 use Rattle.tor_cli.specs.declared.fault.Fault.TheVariants.{NotAsMade, OutAmongFiles, Read, TooLong, Write, Resources}
 
--- the settings that the options ask for. They are of one file or of a folder (profile)
-abbrev pub settings_of_options : MakeOptions → Bool → Settings
-settings_of_options options single = record {
+-- the settings that the options ask for, of pieces of so many bytes. They are of one file or of a folder (profile)
+abbrev pub settings_of_options : MakeOptions → Bool → ℕ → Settings
+settings_of_options options single length = record {
   kind = options.kind;
   single = single;
   name = options.name.now;
-  piece_length = options.piece_length;
+  piece_length = length;
   announce = option_map (λ url. url.now) options.announce;
   is_private = options.is_private;
   tail = options.tail;
 }
 
--- the order that the options ask for (profile)
+-- the order that the options ask for. What files have together no contract says, so that a piece length that suits them
+-- is one of some size (profile)
 pub record IsOrder (options : MakeOptions) (single : Bool) (order : Order) : Type 0 where
-  pub settings : settings_of_order order ≡ settings_of_options options single
+  pub settings : settings_of_order order ≡ settings_of_options options single order.piece_length
+  pub piece_length : (size : ℕ) × (order.piece_length ≡ length_for options.piece_length size)
   pub how : order.how ≡ how_of options.way
   pub span : order.span ≡ options.span
 
@@ -217,7 +219,7 @@ abbrev pub IsDone : Request → Streams → Type 0
 IsDone (Show text) s = (s.reader' ≡ s.reader) × Appends s.writer s.writer' (string_bytes text)
 IsDone (ToMake options) s = DoesMake options s
 IsDone (Check options) s = DoesTell (lines_of options.telling) s
-IsDone (Magnet torrent) s = DoesTell (lines_of Link) s
+IsDone (Magnet options) s = DoesTell (lines_of (Link options.words)) s
 IsDone (Prove options) s = DoesProve options s
 IsDone (Verify options) s = DoesVerify options Yes s
 IsDone (ToRecheck options) s = DoesRecheck options Yes s
@@ -236,7 +238,7 @@ Stops (Show text) s (Write written) =
 Stops (Show text) s other = ⊥
 Stops (ToMake options) s fault = StopsMake options s fault
 Stops (Check options) s fault = StopsTelling (lines_of options.telling) s fault
-Stops (Magnet torrent) s fault = StopsTelling (lines_of Link) s fault
+Stops (Magnet options) s fault = StopsTelling (lines_of (Link options.words)) s fault
 Stops (Prove options) s fault = StopsProving options s fault
 Stops (Verify options) s fault = StopsVerifying options s fault
 Stops (ToRecheck options) s fault = StopsRechecking options s fault

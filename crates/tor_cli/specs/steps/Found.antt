@@ -2,7 +2,7 @@
 use Rattle.std.specs.Prelude.{codes}
 use Rattle.clap.specs.Words.{subcommand_rows_of}
 use Rattle.clap.specs.declared.parser.matches.ArgMatches.{ArgMatches}
-use Rattle.tor_cli.specs.Words.{AreOptionsIn, HasRows, IsCheckIn, IsFileIn, IsPieceIn, IsProofIn, IsRecheckIn}
+use Rattle.tor_cli.specs.Words.{AreOptionsIn, HasRows, IsCheckIn, IsMagnetIn, IsPieceIn, IsProofIn, IsRecheckIn}
 use Rattle.tor_cli.specs.declared.command.Request.{Request}
 use Rattle.tor_cli.specs.declared.command.Request.TheVariants.{Show, Make, Check, Magnet, Prove, Verify, Recheck}
 
@@ -12,7 +12,7 @@ IsFoundIn matches (Show text) = Unit {0}
 IsFoundIn matches (Make options) =
     HasRows (subcommand_rows_of matches) (codes "make") (λ rows. AreOptionsIn rows options)
 IsFoundIn matches (Check options) = HasRows (subcommand_rows_of matches) (codes "check") (IsCheckIn options)
-IsFoundIn matches (Magnet torrent) = HasRows (subcommand_rows_of matches) (codes "magnet") (IsFileIn torrent)
+IsFoundIn matches (Magnet options) = HasRows (subcommand_rows_of matches) (codes "magnet") (IsMagnetIn options)
 IsFoundIn matches (Prove options) = HasRows (subcommand_rows_of matches) (codes "prove") (IsPieceIn options)
 IsFoundIn matches (Verify options) = HasRows (subcommand_rows_of matches) (codes "verify") (IsProofIn options)
 IsFoundIn matches (Recheck options) = HasRows (subcommand_rows_of matches) (codes "recheck") (IsRecheckIn options)

@@ -2,8 +2,7 @@
 ghost use Rattle.hex.specs.Hex.{encode_lower};
 ghost use Rattle.std.specs.Prelude.{◌≡◌, ◌++◌, IfOk, OnOk, codes, string_bytes};
 ghost use Rattle.tor_cli.specs.check.Shown.{check_lines, ended_path, ended_paths, file_line, hash_lines, head_lines};
-ghost use Rattle.tor_cli.specs.check.Shown.{magnet_line, path_text};
-ghost use Rattle.tor_meta.specs.Hashes.{HasHash};
+ghost use Rattle.tor_cli.specs.check.Shown.{path_text};
 ghost use Rattle.tor_cli.specs.Words.{word_of};
 
 use crate::text::escape::escaped;
@@ -11,7 +10,7 @@ use hex::encode;
 use std::alloc::{AllocError, Global};
 use std::fmt::Write;
 use tor_check::Torrent;
-use tor_meta::{Hashes, magnet};
+use tor_meta::Hashes;
 use tor_tree::{FilePath, Kind, TreeFile};
 
 /// The torrent as a whole, then its files in its order, then its info hashes. The user's text is escaped.
@@ -44,16 +43,6 @@ pub fn push_path(alloc: Global, text: &mut String, file: &TreeFile) -> Result<()
     let path = path_text(alloc, &file.path)?;
     text.push_str(&path)?;
     text.push('\0')
-}
-
-/// The magnet link.
-pub fn magnet_line(alloc: Global, hashes: &Hashes) -> Result<String, AllocError>
-    requires { HasHash hashes.now }
-    ensures { IfOk result (λ line. string_bytes line ≡ magnet_line hashes.now) }
-{
-    let mut line = magnet(alloc, hashes)?;
-    line.push('\n')?;
-    Ok(line)
 }
 
 fn head_lines(alloc: Global, torrent: &Torrent) -> Result<String, AllocError>

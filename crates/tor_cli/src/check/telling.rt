@@ -4,8 +4,9 @@ ghost use Rattle.tor_cli.specs.Foreign.{AreLinesOf, DoesTell, IsNoTorrent, Stops
 ghost use Rattle.tor_cli.specs.check.Telling.{lines_of};
 ghost use Rattle.tor_cli.specs.steps.Writing.{writing};
 
+use crate::check::link::{LinkWords, link_line};
 use crate::check::record::check_line;
-use crate::check::shown::{check_lines, ended_paths, magnet_line};
+use crate::check::shown::{check_lines, ended_paths};
 use crate::fault::Fault;
 use crate::foreign::{read_file, torrent_with_hashes};
 use std::alloc::Global;
@@ -17,8 +18,8 @@ use tor_meta::write_out;
 pub enum Telling {
     /// All that it describes.
     Lines,
-    /// Its magnet link.
-    Link,
+    /// Its magnet link, with these words.
+    Link(LinkWords),
     /// The paths of its files.
     Paths,
     /// All that it describes, as JSON.
@@ -49,10 +50,10 @@ fn lines_of(alloc: Global, bytes: &[u8], telling: Telling) -> Result<String, Fau
     ensures stopped { IfErr result (IsNoTorrent bytes.now) }
 {
     let judged = torrent_with_hashes(alloc, bytes)?;
-    Ok(match telling {
-        Telling::Lines => check_lines(alloc, &judged.torrent, &judged.hashes)?,
-        Telling::Link => magnet_line(alloc, &judged.hashes)?,
-        Telling::Paths => ended_paths(alloc, &judged.torrent)?,
-        Telling::Record => check_line(alloc, &judged.torrent, &judged.hashes)?,
-    })
+    match telling {
+        Telling::Lines => Ok(check_lines(alloc, &judged.torrent, &judged.hashes)?),
+        Telling::Link(words) => Ok(link_line(alloc, bytes, &judged, words)?),
+        Telling::Paths => Ok(ended_paths(alloc, &judged.torrent)?),
+        Telling::Record => Ok(check_line(alloc, &judged.torrent, &judged.hashes)?),
+    }
 }

@@ -13,6 +13,7 @@ ghost use Rattle.tor_cli.specs.make.Request.{StopsFinding, StopsInput, StopsMake
 ghost use Rattle.tor_cli.specs.Streams.{streams};
 ghost use Rattle.tor_cli.specs.steps.Lettering.{IsNotOrdered};
 ghost use Rattle.tor_cli.specs.steps.Writing.{writing};
+ghost use Rattle.tor_cli.specs.Words.{length_for};
 
 use crate::fault::Fault;
 use crate::make::attrs_file::lettered_files;
@@ -156,7 +157,10 @@ fn torrent_at<T: Threads + Wait + Sync>(
     let name = name_of(alloc, options)?;
     let found = files_at(system, place, options.attrs, &name)?;
     refuse_out_among_files(system, options.out, &found.source)?;
-    let order = order_of(alloc, options, name, found.single)?;
+    let length = options
+        .piece_length
+        .for_files(&found.source, found.files.len());
+    let order = order_of(alloc, options, name, found.single, length)?;
     let progress = Progress::shown(system, found.files.len(), shows_progress);
     Ok(torrent_of(rt, alloc, options.way, &found, &order, &progress)?)
 }
@@ -169,7 +173,8 @@ fn order_of_one(system: &HostRuntime, options: &MakeOptions<'_>) -> Result<(Orde
     let alloc = system.alloc();
     let name = name_of(alloc, options)?;
     let attr = attr_of_one(system, options, &name)?;
-    Ok((order_of(alloc, options, name, true)?, attr))
+    let length = options.piece_length.for_size(0);
+    Ok((order_of(alloc, options, name, true, length)?, attr))
 }
 
 /// The letters of the one file that has the torrent's name.
@@ -191,14 +196,16 @@ fn name_of(alloc: Global, options: &MakeOptions<'_>) -> Result<Name, NameError>
     Name::new(alloc, options.name.as_bytes())
 }
 
-/// The order that the options ask for, under the name that is their word for it.
+/// The order that the options ask for, under the name that is their word for it, of pieces of so many bytes.
 fn order_of(
     alloc: Global,
     options: &MakeOptions<'_>,
     name: Name,
     single: bool,
+    piece_length: u64,
 ) -> Result<Order, AllocError>
-    requires { name ≡ options.now.name.now }
+    requires name { name ≡ options.now.name.now }
+    requires length { (size : ℕ) × (piece_length ≡ length_for options.now.piece_length size) }
     ensures order { IfOk result (IsOrder options.now single) }
     ensures single { IfOk result (λ order. order.single ≡ single) }
 {
@@ -207,7 +214,7 @@ fn order_of(
         kind: options.kind,
         single,
         name,
-        piece_length: options.piece_length,
+        piece_length,
         announce,
         is_private: options.is_private,
         tail: options.tail,

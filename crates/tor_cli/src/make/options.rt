@@ -1,10 +1,12 @@
 //! What the words of `tor make` ask for.
 ghost use Rattle.clap.specs.Words.{first_of, found_of, rows_of};
-ghost use Rattle.std.specs.Prelude.{◌≡◌, IfSome, Some, codes};
+ghost use Rattle.std.specs.Prelude.{◌≡◌, IfSome, IsSome, Some, codes};
 ghost use Rattle.tor_tree.specs.declared.kinds.Kind.{Kind};
-ghost use Rattle.tor_cli.specs.Words.{AreOptionsIn, HasWorkers, IsWorkersIn, way_word, word_of};
+ghost use Rattle.tor_cli.specs.Words.{AreOptionsIn, HasWorkers, IsLengthIn, IsWorkersIn, way_word, word_of};
+ghost use Rattle.tor_cli.specs.declared.make.piece_length.PieceLength.TheVariants.{Auto};
 ghost use Rattle.tor_cli.specs.declared.make.way.Way.{Way};
 
+use crate::make::piece_length::{PieceLength, piece_length_of};
 use crate::make::way::Way;
 use crate::workers::workers_of;
 use clap::ArgMatches;
@@ -17,8 +19,7 @@ use tor_tree::Kind;
 pub struct MakeOptions<'a> {
     pub kind: Kind,
     pub name: &'a str,
-    /// In bytes.
-    pub piece_length: u64,
+    pub piece_length: PieceLength,
     /// The tracker's URL.
     pub announce: Option<&'a str>,
     pub is_private: bool,
@@ -46,7 +47,7 @@ pub fn make_options<'a, T: Threads>(rt: &T, matches: &ArgMatches<'a>) -> Option<
     Some(MakeOptions {
         kind: kind_in(matches)?,
         name: matches.get_str("name")?,
-        piece_length: matches.get_one::<u64>("piece-length")?,
+        piece_length: piece_length_in(matches)?,
         announce: matches.get_str("announce"),
         is_private: matches.get_flag("private"),
         tail: matches.get_flag("tail"),
@@ -57,6 +58,22 @@ pub fn make_options<'a, T: Threads>(rt: &T, matches: &ArgMatches<'a>) -> Option<
         place: matches.get_str("path"),
         attrs: matches.get_str("attrs"),
     })
+}
+
+/// The piece length that stands in the words; `auto` only beside the files that it is to suit.
+pub(crate) fn piece_length_in(matches: &ArgMatches<'_>) -> Option<PieceLength>
+    ensures word { IfSome result (IsLengthIn (rows_of (found_of matches.now))) }
+    ensures files { IfSome result
+        (λ length. length ≡ Auto → IsSome (first_of (codes "path") (rows_of (found_of matches.now)))) }
+{
+    let length = piece_length_of(matches.get_str("piece-length")?)?;
+    match length {
+        PieceLength::Auto => {
+            matches.get_str("path")?;
+            Some(length)
+        }
+        PieceLength::Bytes(_) => Some(length),
+    }
 }
 
 fn kind_in(matches: &ArgMatches<'_>) -> Option<Kind>

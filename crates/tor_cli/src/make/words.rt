@@ -20,7 +20,7 @@ const DEFAULT_KIND: &str = "v2";
 const NAME: &str = "The name that the torrent suggests for its content";
 
 const PIECE_LENGTH: &str =
-    "Bytes in a piece: a power of two from 16384 to 1073741824; choose more for more data";
+    "Bytes in a piece: a power of two from 16384 to 1073741824, or auto, which suits the files of PATH";
 
 const KIND: &str = "Which clients can use the torrent: of version 1, of version 2, or both";
 
@@ -120,9 +120,7 @@ fn piece_length_option<'a>(alloc: Global) -> Arg<'a>
     ensures rule { rule_of result ≡ piece_length_option }
     ensures local { result.global ≡ false }
 {
-    option_of(alloc, "piece-length", "N", PIECE_LENGTH)
-        .value_parser(value_parser!(u64))
-        .default_value(DEFAULT_PIECE_LENGTH)
+    option_of(alloc, "piece-length", "N", PIECE_LENGTH).default_value(DEFAULT_PIECE_LENGTH)
 }
 
 fn kind_option<'a>(alloc: Global) -> Arg<'a>

@@ -19,7 +19,7 @@ returns c =
     ∙ ap₂ with_subcommand making (ap (λ (app : App). app.top) of_check) in
     IfOk-weaker c.with_command-3.result _ _
     (λ command (link, is_link, adds_link).
-    let of_link = there _ _ link is_link c.file_command.ensures in (
+    let of_link = there _ _ link is_link c.magnet_command.ensures in (
       kinds,
       hows,
       are,

@@ -22,7 +22,7 @@ module _ (matches : ArgMatches) (words : List (List ℕ)) (kinds hows : ValuePar
   asked (Show text) found = tt
   asked (Make options) found = has _ _ found
   asked (Check options) found = has _ _ found
-  asked (Magnet torrent) found = has _ _ found
+  asked (Magnet options) found = has _ _ found
   asked (Prove options) found = has _ _ found
   asked (Verify options) found = has _ _ found
   asked (Recheck options) found = has _ _ found

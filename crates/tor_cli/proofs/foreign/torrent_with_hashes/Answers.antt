@@ -15,13 +15,14 @@ info_hashes-hashes-requires c =
 pub returns-in-Ok-clause-accepted : goal.returns-in-Ok-clause-accepted
 returns-in-Ok-clause-accepted c =
     let (root, torrent, described) = c.in-Ok.ensures.accepted in
-    let found = info_found root torrent.accepted in
-    record {
-      root = root;
-      torrent = torrent;
-      described = described;
-      hashed =
-          subst (λ kind. AreInfoHashes kind (spelling (info_of root)) c.info_hashes-hashes.result)
-          (c.kind.ensures ∙ ap (λ (view : View). view.kind) described)
-          (c.info_hashes-hashes.ensures root (info_of root) torrent.lawful torrent.spelled found);
-    }
+    let found = info_found root torrent.accepted in (
+      root,
+      described,
+      record {
+        torrent = torrent;
+        hashed =
+            subst (λ kind. AreInfoHashes kind (spelling (info_of root)) c.info_hashes-hashes.result)
+            (c.kind.ensures ∙ ap (λ (view : View). view.kind) described)
+            (c.info_hashes-hashes.ensures root (info_of root) torrent.lawful torrent.spelled found);
+      },
+    )

@@ -13,9 +13,8 @@ returns g c =
       name =
           found_text found (codes "name") c.get_str.result c.in_ok-get_str.field-0 c.get_str.ensures
           c.in_ok-get_str.was;
-      piece_length = λ text is.
-          let read = c.in_ok-get_one.ensures.value text (one_text-rows found (codes "piece-length") ∙ is) in
-          (read.0.0.0, read.0.1);
+      piece_length = c.in_ok-piece_length_in.ensures.word;
+      has_files = c.in_ok-piece_length_in.ensures.files;
       announce = sym (first_value-rows found (codes "announce")) ∙ sym c.get_str-2.ensures;
       is_private = λ is. c.get_flag.ensures.value (one_text-rows found (codes "private") ∙ is);
       is_public = λ is. c.get_flag.ensures.other (one_text-rows found (codes "private") ∙ is);
@@ -25,7 +24,7 @@ returns g c =
       way = c.in_ok-way_in.ensures.word;
       workers = c.in_ok-way_in.ensures.workers;
       span = λ text is.
-          let read = c.in_ok-get_one-2.ensures.value text (one_text-rows found (codes "span") ∙ is) in
+          let read = c.in_ok-get_one.ensures.value text (one_text-rows found (codes "span") ∙ is) in
           (read.0.0.0, read.0.1);
       check_after = λ given is.
           found_flag found (codes "check-after") c.get_flag-3.result given c.get_flag-3.ensures.value
