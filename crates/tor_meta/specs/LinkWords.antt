@@ -9,12 +9,12 @@ abbrev pub is_alphanumeric : ℕ → Bool
 is_alphanumeric byte =
     (nat_le 65 byte && nat_le byte 90) || ((nat_le 97 byte && nat_le byte 122) || (nat_le 48 byte && nat_le byte 57))
 
--- a letter, a digit, `-`, `.`, `_` or `~` (RFC 3986, section 2.3)
+-- a letter, a digit, `-`, `.`, `_` or `~` (RFC 3986, "Unreserved Characters")
 abbrev pub is_unreserved : ℕ → Bool
 is_unreserved byte = is_alphanumeric byte || list_any (λ mark. byte == mark) (codes "-._~")
 
 -- a text in a link: a byte that is unreserved as it is, any other as `%` and its two digits in base sixteen (RFC 3986,
--- sections 2.1 and 2.3)
+-- "Percent-Encoding")
 abbrev pub link_text : List ℕ → List ℕ
 link_text bytes = flat_map (λ byte. if is_unreserved byte then byte ∷ [] else percent_encode_byte byte) bytes
 

@@ -2,8 +2,8 @@
 use Rattle.std.specs.Prelude.{ℕ, ◌*◌, ◌^◌, Bool, List, map, nat_lt, unwrap_or}
 use Rattle.std.specs.List.{find, range_with_len}
 
--- pieces of so many bytes suit contents of so many: their hashes then take as much as a few blocks, or less (profile:
--- the steps that libtorrent takes, and on from there)
+-- pieces of so many bytes suit contents of so many. The steps are those that libtorrent takes, and go on from there
+-- (profile)
 abbrev pub is_long_enough : ℕ → ℕ → Bool
 is_long_enough size length = nat_lt (size * 2 ^ 14) (160 * (length * length))
 

@@ -70,7 +70,7 @@ impl Room {
     }
 
     /// How many bytes are held.
-    pub(crate) fn held(&self) -> usize
+    pub(crate) fn count_held(&self) -> usize
         ensures { result ≡ count_in self.now }
     {
         self.held

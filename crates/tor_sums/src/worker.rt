@@ -117,7 +117,7 @@ impl WorkerSums {
         if count == 0 {
             return Ok(());
         }
-        self.feed_tree(self.held())?;
+        self.feed_tree(self.count_held())?;
         let mut left = count;
         'zeros: while left > 0 {
             let width = self.put_zeros(left)?;
@@ -132,7 +132,7 @@ impl WorkerSums {
             HasTaken kind piece_length before unit self.old →
             OnOk result (HasTaken kind piece_length before (unit ++ bytes.now) self.new) }
     {
-        self.feed_tree(self.held())?;
+        self.feed_tree(self.count_held())?;
         let mut left = bytes;
         'parts: while !left.is_empty() {
             let count = self.put(left)?;
@@ -155,7 +155,7 @@ impl WorkerSums {
             HasTaken plan.now.kind plan.now.piece_length bytes unit self.old → IsFresh plan.now unit self.new }
         ensures treed { IsTreed plan.now self.new }
     {
-        let held = self.held();
+        let held = self.count_held();
         let (_, last) = self.room.front(held).split_at(self.treed);
         let ended = self.hasher.end_tree(alloc, plan, last);
         self.treed = held;
@@ -173,7 +173,7 @@ impl WorkerSums {
         ensures next { OnOk result (IsFresh plan.now [] self.new) }
         ensures none { OnOk result (count_in (room_of self.new) ≡ 0) }
     {
-        self.hash(self.held())?;
+        self.hash(self.count_held())?;
         Ok(self.hasher.end_pieces(alloc, plan))
     }
 
@@ -183,7 +183,7 @@ impl WorkerSums {
         ensures begun { begun_of self.new ≡ begun_of self.old }
         ensures room { OnOk result (CanFinish self.new) }
     {
-        self.hasher.reserve(self.room.held() as u64)
+        self.hasher.reserve(self.room.count_held() as u64)
     }
 
     /// Ends the pieces, for whose sums there is room, and gives them. It takes no memory.
@@ -199,15 +199,15 @@ impl WorkerSums {
             begun: _,
             mut hasher,
         } = self;
-        hasher.add_pieces(room.front(room.held()));
+        hasher.add_pieces(room.front(room.count_held()));
         hasher.finish(alloc).pieces
     }
 
     // How many bytes wait.
-    fn held(&self) -> usize
+    fn count_held(&self) -> usize
         ensures { result ≡ count_in (room_of self.now) }
     {
-        self.room.held()
+        self.room.count_held()
     }
 
     // Adds zeros, at most `left`, and answers how many. The tree has all that waits.
@@ -224,7 +224,7 @@ impl WorkerSums {
     {
         self.make_room(left)?;
         let count = self.room.put_zeros(left);
-        self.treed = self.room.held();
+        self.treed = self.room.count_held();
         Ok(count as u64)
     }
 

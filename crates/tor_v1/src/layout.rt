@@ -77,7 +77,7 @@ pub fn entries_without_letters(
     ensures { IfOk result (λ entries. entries.items ≡ v1_entries layout piece_length files.now) }
 {
     match layout {
-        Layout::Joined => joined(alloc, files),
+        Layout::Joined => joined_entries(alloc, files),
         Layout::Aligned => aligned(alloc, files, piece_length, false),
         Layout::AlignedTail => aligned(alloc, files, piece_length, true),
     }
@@ -101,7 +101,7 @@ fn any_reserved(files: &[(FilePath, u64)]) -> bool
 }
 
 /// An entry for each file.
-fn joined(alloc: Global, files: &[(FilePath, u64)]) -> Result<Vec<Entry>, AllocError>
+fn joined_entries(alloc: Global, files: &[(FilePath, u64)]) -> Result<Vec<Entry>, AllocError>
     ensures { IfOk result (λ entries. entries.items ≡ map file_entry files.now) }
 {
     let mut entries = Vec::with_capacity(alloc, files.len())?;

@@ -10,7 +10,7 @@ pub parts-init : goal.parts-init
 parts-init c =
     let room = ap count_in c.in_ok-feed_tree.ensures.room in
     record {
-      treed = omega (arith, c.in_ok-feed_tree.ensures.treed, c.held.ensures, room, c.args.self.now.marked);
+      treed = omega (arith, c.in_ok-feed_tree.ensures.treed, c.count_held.ensures, room, c.args.self.now.marked);
       taken = (
         [],
         refl,

@@ -14,7 +14,7 @@ zeros-init c =
     let room = ap count_in c.in_ok-feed_tree.ensures.room in
     record {
       within = omega arith;
-      treed = omega (arith, c.in_ok-feed_tree.ensures.treed, c.held.ensures, room, c.args.self.now.marked);
+      treed = omega (arith, c.in_ok-feed_tree.ensures.treed, c.count_held.ensures, room, c.args.self.now.marked);
       begun = refl;
       tree = refl;
       taken = λ kind p bytes unit taken. takes_none kind p _ bytes unit _ (omega arith) taken;
@@ -40,7 +40,7 @@ zeros-preserved c =
 pub returns-clause-treed : goal.returns-clause-treed
 returns-clause-treed c = λ plan treed.
     let same = c.zeros.invariant.tree
-    ∙ c.in_ok-feed_tree.ensures.tree (omega (arith, treed.all, c.held.ensures)) in
+    ∙ c.in_ok-feed_tree.ensures.tree (omega (arith, treed.all, c.count_held.ensures)) in
     record {
       all = c.zeros.invariant.treed;
       tree = same ∙ treed.tree;

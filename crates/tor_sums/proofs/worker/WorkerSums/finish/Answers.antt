@@ -12,7 +12,7 @@ returns c = λ kind p bytes unit taken.
     let room = c.args.self.room in
     let long = length-take room.held room.bytes.items in
     let all : c.front.result.now ≡ held_in room =
-    c.front.ensures.value ∙ take_all c.held.result (held_in room) (omega (arith, long, c.held.ensures)) in
+    c.front.ensures.value ∙ take_all c.count_held.result (held_in room) (omega (arith, long, c.count_held.ensures)) in
     let hashes = c.finish.ensures kind p taken.fed_bytes (taken.fed_unit ++ c.front.result.now)
     (c.add_pieces.ensures kind p taken.fed_bytes taken.fed_unit taken.fed) in
     ended_sums kind p bytes unit c.args.self taken c.finish.result.pieces.items
