@@ -63,7 +63,7 @@ const READ: &[Read] = &[
     (40000, 16384, 1, Kind::Hybrid, 16384),
     (1_200_000, 1 << 21, 1, Kind::V2, 1 << 20),
     (1_200_000, 1 << 19, 2, Kind::V1, 1 << 20),
-    // Eight pieces, which fill the room in the last row.
+    // Eight pieces, whose read asks for all of them.
     (4_500_000, 1 << 18, 32, Kind::V1, 1 << 21),
     (9_000_000, 1 << 20, 16, Kind::V1, 1 << 23),
 ];
