@@ -1,7 +1,6 @@
 """What another client reads of what `tor` writes: libtorrent, by Debian's python3-libtorrent."""
 import json
 import subprocess
-import tempfile
 from pathlib import Path
 
 from support import Skipped, expect_equal, run
@@ -34,16 +33,15 @@ def output(program, words, data=b''):
     return told.out
 
 
-def test_magnet_links_are_read_back(program):
+def test_magnet_links_are_read_back(program, folder):
     """Names and trackers with bytes of every sort come back from the link as they are in the torrent."""
-    with tempfile.TemporaryDirectory() as folder:
-        for index, name in enumerate(NAMES):
-            kind, url = ['v1', 'v2', 'hybrid'][index % 3], TRACKERS[index % 3]
-            torrent = Path(folder) / 'torrent'
-            words = ['make', '--name', name, '--kind', kind, '--announce', url]
-            torrent.write_bytes(output(program, words, name.encode()))
-            hashes = dict(line.split(' ', 1) for line in output(program, ['check', str(torrent)]).decode().splitlines())
-            link = output(program, ['magnet', '--name', '--trackers', str(torrent)])
-            wanted = {'name': name, 'trackers': [url], 'v1': hashes.get('btih'),
-                      'v2': hashes['btmh'][4:] if 'btmh' in hashes else None}
-            expect_equal(f'the link of {name!r}', wanted, read_by_libtorrent(link))
+    for index, name in enumerate(NAMES):
+        kind, url = ['v1', 'v2', 'hybrid'][index % 3], TRACKERS[index % 3]
+        torrent = Path(folder) / 'torrent'
+        words = ['make', '--name', name, '--kind', kind, '--announce', url]
+        torrent.write_bytes(output(program, words, name.encode()))
+        hashes = dict(line.split(' ', 1) for line in output(program, ['check', str(torrent)]).decode().splitlines())
+        link = output(program, ['magnet', '--name', '--trackers', str(torrent)])
+        wanted = {'name': name, 'trackers': [url], 'v1': hashes.get('btih'),
+                  'v2': hashes['btmh'][4:] if 'btmh' in hashes else None}
+        expect_equal(f'the link of {name!r}', wanted, read_by_libtorrent(link))
