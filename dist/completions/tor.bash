@@ -6,6 +6,7 @@ _tor_options() {
         '') echo '-h --help -V --version' ;;
         make) echo '--name --piece-length --kind --announce --private --tail --attrs --how --workers --span --check-after --out -h --help' ;;
         check) echo '--null --json -h --help' ;;
+        magnet) echo '--name --trackers -h --help' ;;
         recheck) echo '--files --bad --null --json --workers -h --help' ;;
         *) echo '-h --help' ;;
     esac
