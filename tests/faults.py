@@ -122,6 +122,17 @@ def test_of_streams(program, folder):
     expect_faults_as_found(program, folder, ['make', '--name', 'f', '--how', 'streams', files])
 
 
+def test_a_scan_ends_at_its_first_refusal(program, folder):
+    """Nothing behind what is refused is asked for, however many files there are."""
+    files = lay_out(folder)
+    (files / 'a0').symlink_to('a')
+    for number in range(100):
+        (files / f'b{number:02}').write_bytes(b'')
+    told, log = traced(program, ['make', '--name', 'f', files], None, [], folder / 'log', trace='statx,openat')
+    expect_told(['make'], refused('F2 NotRegular'), told)
+    expect_equal('names that were asked for', {'a', 'a0'}, set(re.findall(r'[/"]([ab]\d*)"', log)))
+
+
 def calls_upon(folder):
     """The calls of each thread that asked something of the files: a list for each such thread."""
     threads = []

@@ -1,15 +1,16 @@
 //! Where the system has the files below a folder, or a file by itself.
 ghost use Rattle.std.specs.Prelude.{◌≡◌, ◌⊎◌, ◌<◌, ◌≤◌, ◌∷◌, [], Err, None, Ok, IfErr, IfOk, false, length, map};
-ghost use Rattle.std.specs.Prelude.{vec_len};
+ghost use Rattle.std.specs.Prelude.{IsOk, List, vec_len};
 ghost use Rattle.std.specs.List.{All};
 ghost use Rattle.std.specs.List.Sorted.{IsStrictlySortedBy};
 ghost use Rattle.std.specs.IoError.{error_kind};
 ghost use Rattle.std.specs.String.{string_bytes};
 ghost use Rattle.tor_source.specs.Answers.{system_answers};
-ghost use Rattle.tor_source.specs.Faults.{is_absence};
+ghost use Rattle.tor_source.specs.Faults.{fault_of_refusal, is_absence};
 ghost use Rattle.tor_source.specs.Named.{AreParted, path_of};
 ghost use Rattle.tor_source.specs.Places.{place_of};
 ghost use Rattle.tor_source.specs.declared.faults.ScanFault.TheVariants.{Memory, System};
+ghost use Rattle.tor_source.specs.declared.refused.Refused.{Refused};
 ghost use Rattle.tor_tree.specs.declared.paths.TheConstants.{MAX_NAMES};
 ghost use Rattle.tor_tree.specs.Path.{path_cmp};
 
@@ -78,10 +79,7 @@ impl<R: Files + Clone + Drop> FolderSource<R> {
         ensures nowhere { place.now ≡ [] → result ≡ Err System }
     {
         let survey = FolderSource::surveyed(rt, alloc, place, true)?;
-        match survey.refused.first() {
-            Some(first) => Err(first.refusal.fault()),
-            None => Ok((survey.source, survey.paths)),
-        }
+        whole(survey)
     }
 
     /// As `scan`, but what would be its fault is passed over: the files that can be taken, and all that is refused in
@@ -280,5 +278,19 @@ where
             Some(listed) => read_listed(&self.rt, place, &listed, start, buffer),
             None => regular::read_at(&self.rt, place, start, buffer),
         }
+    }
+}
+
+// The files of a survey, if nothing is refused, or the fault of what was refused first.
+fn whole<R: Files + Drop>(survey: Survey<R>) -> Result<(FolderSource<R>, Vec<FilePath>), ScanFault>
+    ensures source { IfOk result (λ found. found.0 ≡ survey.source) }
+    ensures paths { IfOk result (λ found. found.1 ≡ survey.paths) }
+    ensures none { survey.refused.items ≡ [] → IsOk result }
+    ensures first { (first : Refused) → (others : List Refused) → survey.refused.items ≡ first ∷ others →
+        result ≡ Err (fault_of_refusal first.refusal) }
+{
+    match survey.refused.first() {
+        Some(first) => Err(first.refusal.fault()),
+        None => Ok((survey.source, survey.paths)),
     }
 }

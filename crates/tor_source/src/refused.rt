@@ -1,5 +1,7 @@
 //! What is not taken of a folder, and why.
 ghost use Rattle.std.specs.Prelude.{◌≡◌, ◌++◌, IfOk};
+ghost use Rattle.std.specs.Fs.{IsDir, IsSymlink, file_type};
+ghost use Rattle.tor_source.specs.declared.refused.OtherKind.TheVariants.{Folder, Link};
 ghost use Rattle.tor_source.specs.Faults.{fault_of_refusal};
 ghost use Rattle.tor_source.specs.Places.{path_bytes};
 
@@ -63,7 +65,10 @@ pub struct Refused {
 }
 
 /// What the system tells of something that is no regular file.
-pub(crate) fn kind_of(metadata: &Metadata) -> OtherKind {
+pub(crate) fn kind_of(metadata: &Metadata) -> OtherKind
+    ensures link { IsSymlink (file_type metadata.now) → result ≡ Link }
+    ensures folder { IsDir (file_type metadata.now) → result ≡ Folder }
+{
     let kind = metadata.file_type();
     if kind.is_symlink() {
         return OtherKind::Link;

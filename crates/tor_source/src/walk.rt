@@ -4,7 +4,9 @@ ghost use Rattle.std.specs.Prelude.{List, [], IfOk, OnOk, length, map, vec_items
 ghost use Rattle.std.specs.List.Sorted.{IsStrictlySortedBy};
 ghost use Rattle.std.specs.String.{string_bytes};
 ghost use Rattle.tor_source.specs.steps.Order.{HasAdded, HasFound, IsAhead, IsEntered, IsStanding};
+ghost use Rattle.tor_source.specs.Faults.{fault_of_name, fault_of_refusal};
 ghost use Rattle.tor_source.specs.Places.{without_slash};
+ghost use Rattle.tor_tree.specs.declared.names.NameError.TheVariants.{Memory};
 ghost use Rattle.tor_tree.specs.Path.{name_cmp};
 
 use crate::faults::ScanFault;
@@ -66,6 +68,9 @@ where
             &mut waiting,
             &mut found,
         )?;
+        if ends && !found.refused.is_empty() {
+            return Ok(found);
+        }
     }
     Err(ScanFault::System)
 }
@@ -134,7 +139,9 @@ fn settle(
 }
 
 /// Why these bytes are no name of a file. A name that the system lists is not empty, and has no `/` and no zero byte.
-fn refusal_of_name(fault: NameError) -> Refusal {
+fn refusal_of_name(fault: NameError) -> Refusal
+    ensures { fault ≢ Memory → fault_of_refusal result ≡ fault_of_name fault }
+{
     match fault {
         NameError::NotUtf8 => Refusal::NotUtf8,
         _ => Refusal::System(io::Error::from(ErrorKind::InvalidFilename)),
