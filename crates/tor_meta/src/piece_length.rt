@@ -25,8 +25,8 @@ const PIECE_LENGTHS: [u32; 15] = [
 /// What suits all that is larger.
 const LONGEST: u64 = 536_870_912;
 
-/// The bytes of a piece that suit contents of so many bytes: from 256 KiB up to 640 MiB, by steps of two, each for four
-/// times as much.
+/// The bytes of a piece that suit contents of so many bytes: 16 KiB below 2.5 MiB, by steps of two, each for four times
+/// as much.
 pub fn auto_piece_length(size: u64) -> u64
     ensures { result ≡ auto_piece_length size }
 {
