@@ -1,0 +1,14 @@
+pub mod Names
+pub mod Pairs
+pub mod Cuts
+pub mod Numerals
+pub mod Views
+pub mod ByIndex
+pub mod Between
+pub mod Spelled
+pub mod Values
+pub mod Lawful
+pub mod Torrents
+pub mod LastTracker
+pub mod OneTree
+pub mod EditedRows

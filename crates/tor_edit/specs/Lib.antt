@@ -1,0 +1,2 @@
+pub mod Tracker
+pub mod steps
