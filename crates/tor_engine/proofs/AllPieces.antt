@@ -9,7 +9,8 @@ use Rattle.tor_plan.specs.declared.units.PlanUnit.{PlanUnit}
 use Rattle.tor_source.specs.Source.{SourceFacts}
 use Rattle.tor_sums.specs.Contents.{contents_in}
 use Rattle.tor_engine.specs.PieceFault.{first_asked_fault, first_piece_fault, lengths_told, piece_fault, pieces_fault}
-use Rattle.tor_engine.specs.PieceHashes.{hash_if_there, pieces_of_plan, piece_hashes}
+use Rattle.tor_engine.specs.PieceFault.{units_piece_fault}
+use Rattle.tor_engine.specs.PieceHashes.{hash_if_there, hashes_of_units, pieces_of_plan, pieces_of_units, piece_hashes}
 use Rattle.tor_engine.specs.There.{HaveHashesOf, is_within}
 use Rattle.tor_engine.specs.declared.piece_hash.PieceHash.{PieceHash}
 use Rattle.tor_engine.specs.declared.piece_work.UnitPieces.{UnitPieces}
@@ -28,6 +29,18 @@ joined_maps f g (x ∷ xs) =
 pub all_hashes : (plan : PlanFacts) (contents : List (List ℕ))
     → flat_map (unit_hashes plan contents) plan.units ≡ piece_hashes plan contents
 all_hashes plan contents = joined_maps (hash_if_there plan contents) (pieces_of_unit plan.piece_length) plan.units
+
+-- those of units, and their first fault
+pub hashes_flat : (plan : PlanFacts) (contents : List (List ℕ)) (units : List PlanUnit)
+    → flat_map (unit_hashes plan contents) units ≡ hashes_of_units plan contents units
+hashes_flat plan contents units = joined_maps (hash_if_there plan contents) (pieces_of_unit plan.piece_length) units
+
+pub faults_flat : {F : Type 0} (facts : SourceFacts F) (plan : PlanFacts) (contents : List (List ℕ))
+    (units : List PlanUnit)
+    → first_unit_fault facts plan contents units ≡ pieces_fault facts contents (pieces_of_units plan.piece_length units)
+faults_flat facts plan contents units =
+    sym (first_flat (piece_fault facts contents) (pieces_of_unit plan.piece_length)
+    (unit_pieces_fault facts plan contents) units (λ unit. refl))
 
 pub all_faults : {F : Type 0} (facts : SourceFacts F) (plan : PlanFacts) (contents : List (List ℕ))
     → first_unit_fault facts plan contents plan.units ≡ pieces_fault facts contents (pieces_of_plan plan)
@@ -97,3 +110,12 @@ module _ {F : Type 0} (facts : SourceFacts F) where
       all_faults facts plan contents
       ∙ sym (or_none (first_asked_fault facts (length plan.lengths))
       (pieces_fault facts contents (pieces_of_plan plan)) none)
+
+  -- of some units
+  pub fault_of_units : (plan : PlanFacts) (units : List PlanUnit) → first_asked_fault facts (length plan.lengths) ≡ None
+      → first_unit_fault facts plan (contents_in facts (length plan.lengths)) units ≡ units_piece_fault facts plan units
+  fault_of_units plan units none =
+      let contents = contents_in facts (length plan.lengths) in
+      faults_flat facts plan contents units
+      ∙ sym (or_none (first_asked_fault facts (length plan.lengths))
+      (pieces_fault facts contents (pieces_of_units plan.piece_length units)) none)

@@ -7,11 +7,13 @@ pub mod Counts
 pub mod Each
 pub mod Failing
 pub mod FileRows
+pub mod FoundReadable
 pub mod GivenAnswers
 pub mod GivenInOrder
 pub mod GivenUnits
 pub mod LotRows
 pub mod OnePiece
+pub mod PaidAlone
 pub mod PartsInside
 pub mod PieceNodes
 pub mod PlanFaults
@@ -24,6 +26,7 @@ pub mod RunRoots
 pub mod SameRows
 pub mod SeatAnswers
 pub mod SharedContents
+pub mod SeenLengths
 pub mod Stopping
 pub mod Told
 pub mod ToldContents

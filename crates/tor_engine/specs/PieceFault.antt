@@ -9,7 +9,7 @@ use Rattle.tor_plan.specs.declared.units.PlanUnit.{PlanUnit}
 use Rattle.tor_source.specs.Source.{SourceFacts}
 use Rattle.tor_sums.specs.Contents.{contents_in}
 use Rattle.tor_sums.specs.Fault.{first_of, unit_fault}
-use Rattle.tor_engine.specs.PieceHashes.{pieces_of_plan}
+use Rattle.tor_engine.specs.PieceHashes.{pieces_of_plan, pieces_of_units}
 use Rattle.tor_sums.specs.declared.errors.EngineError.{EngineError}
 use Rattle.tor_sums.specs.declared.errors.EngineError.TheVariants.{Read}
 
@@ -38,3 +38,9 @@ abbrev pub first_piece_fault : {F : Type 0} → SourceFacts F → PlanFacts → 
 first_piece_fault facts plan =
     option_or (first_asked_fault facts (length plan.lengths))
     (pieces_fault facts (contents_in facts (length plan.lengths)) (pieces_of_plan plan))
+
+-- the first fault of the lengths of all files, then of those pieces of some units that are there (profile)
+abbrev pub units_piece_fault : {F : Type 0} → SourceFacts F → PlanFacts → List PlanUnit → Option (EngineError F)
+units_piece_fault facts plan units =
+    option_or (first_asked_fault facts (length plan.lengths))
+    (pieces_fault facts (contents_in facts (length plan.lengths)) (pieces_of_units plan.piece_length units))

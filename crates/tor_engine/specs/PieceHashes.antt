@@ -16,6 +16,10 @@ use Rattle.tor_tree.specs.Kinds.{has_v1, has_v2}
 use Rattle.tor_v1.specs.Piece.{piece_sums}
 use Rattle.tor_engine.specs.declared.piece_hash.PieceHash.{PieceHash}
 
+-- all pieces of units, each as a unit (profile)
+abbrev pub pieces_of_units : ℕ → List PlanUnit → List PlanUnit
+pieces_of_units piece_length units = flat_map (pieces_of_unit piece_length) units
+
 -- all pieces of a plan, each as a unit (profile)
 abbrev pub pieces_of_plan : PlanFacts → List PlanUnit
 pieces_of_plan plan = flat_map (pieces_of_unit plan.piece_length) plan.units
@@ -56,3 +60,7 @@ hash_if_there plan contents piece =
 -- "pieces root")
 abbrev pub piece_hashes : PlanFacts → List (List ℕ) → List (Option PieceHash)
 piece_hashes plan contents = map (hash_if_there plan contents) (pieces_of_plan plan)
+
+-- those of the pieces of some units (BEP 3, "info dictionary"; BEP 52, "piece layers", "pieces root")
+abbrev pub hashes_of_units : PlanFacts → List (List ℕ) → List PlanUnit → List (Option PieceHash)
+hashes_of_units plan contents units = map (hash_if_there plan contents) (pieces_of_units plan.piece_length units)

@@ -13,8 +13,13 @@
 //!   `tor_sums`.
 //! - [`work`] (`shares.rt`): one worker at a board, for callers with threads of their own.
 //! - [`hash_pieces`] (`pieces.rt`): what each piece hashes to ([`PieceHash`], `piece_hash.rt`), of files that may be
-//!   cut short or missing; [`find_pieces`] tells their lengths too. `asked.rt` asks for these, `present.rt` tells what
-//!   is there by them, and `piece_work.rt` hashes the pieces of a unit.
+//!   cut short or missing; [`find_pieces`] tells their lengths too, and [`find_pieces_between`] does so for some units.
+//!   `asked.rt` asks for the lengths, `present.rt` tells what is there by them, and `piece_work.rt` hashes the pieces of
+//!   a unit.
+//! - [`find_readable`] (`readable.rt`): the same as far as the pieces can be read ([`ReadablePieces`]), and what could
+//!   not be ([`ReadFault`], `read_fault.rt`). `asking.rt` asks for the lengths, `seen.rt` is the source without the
+//!   files whose lengths fail, and `readable_work.rt` hashes a unit at once, and after a fault each of its pieces by
+//!   itself (`alone.rt`); `probing.rt` reads the parts of one that failed.
 //! - [`hash_lot`] (`lot.rt`): the hashes of the pieces of some units ([`PieceRow`]), of which several machines each
 //!   hash others.
 //! - [`laws`] (`laws.rt`): laws over the definition of the first fault and over the hashes of units, and the limits of
@@ -33,7 +38,9 @@
 //! ```
 #![tactic(auto)]
 
+mod alone;
 mod asked;
+mod asking;
 mod engine;
 mod failure;
 mod halves;
@@ -45,8 +52,13 @@ mod piece_hash;
 mod piece_work;
 mod pieces;
 mod present;
+mod probing;
+mod read_fault;
+mod readable;
+mod readable_work;
 mod roots;
 mod seats;
+mod seen;
 mod shares;
 mod sum_work;
 mod taking;
@@ -58,7 +70,9 @@ pub use engine::{hash_all, hash_told};
 pub use lengths::ask_lengths;
 pub use lot::{PieceRow, hash_lot};
 pub use piece_hash::PieceHash;
-pub use pieces::{FoundPieces, find_pieces, hash_pieces};
+pub use pieces::{FoundPieces, find_pieces, find_pieces_between, hash_pieces};
+pub use read_fault::ReadFault;
+pub use readable::{ReadablePieces, find_readable};
 pub use shares::{Share, work};
 pub use tor_lane::{Chunk, Feeder, Taker, lane, lane_law};
 pub use tor_streams::{Gate, MAX_UNIT_LENGTH, hash_input, hash_streams, hash_streams_with};

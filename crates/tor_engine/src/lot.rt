@@ -81,7 +81,7 @@ pub fn hash_lot<S: Source, R: Threads + Sync>(
 }
 
 /// The units from one number on, and before another.
-fn units_between(units: &[PlanUnit], from: usize, to: usize) -> &[PlanUnit]
+pub(crate) fn units_between(units: &[PlanUnit], from: usize, to: usize) -> &[PlanUnit]
     requires ordered { from ≤ to }
     requires within { to ≤ length units.now }
     ensures { result.now ≡ units_between from to units.now }

@@ -1,5 +1,6 @@
 //! The pieces of units hashed, those that are wholly there.
 ghost use Rattle.std.specs.Prelude.{◌≡◌, ◌↔◌, ◌++◌, [], ℕ, IsTrue, List, None, IfErr, IfOk, MatchResult, length, map};
+ghost use Rattle.std.specs.Prelude.{true};
 ghost use Rattle.std.specs.Prelude.{replicate};
 ghost use Rattle.tor_plan.specs.PlanFacts.{IsPlan};
 ghost use Rattle.tor_source.specs.Source.{SourceFacts};
@@ -9,6 +10,7 @@ ghost use Rattle.tor_sums.specs.steps.Each.{OweEach};
 ghost use Rattle.tor_sums.specs.steps.Given.{IsGivenRead, lengths_of_sizes};
 ghost use Rattle.tor_sums.specs.steps.Owing.{Owes};
 ghost use Rattle.tor_engine.specs.PieceFault.{piece_fault};
+ghost use Rattle.tor_engine.specs.There.{is_within};
 ghost use Rattle.tor_engine.specs.steps.Pieces.{AreTold, HashesPieces, IsPaddingSum, IsPiece, IsUnitToHash, hashes_in};
 ghost use Rattle.tor_engine.specs.steps.Pieces.{unit_pieces_fault};
 ghost use Rattle.tor_engine.specs.steps.Unsummed.{FindsPiece, OwePieces, owed_to_pieces, paid_pieces};
@@ -140,7 +142,7 @@ impl<'a, S: FileBytes> UnitWork for PieceWork<'a, S> {
 }
 
 /// What is found of a piece. One of which a byte is not there is not read.
-fn find_piece<S: FileBytes>(
+pub(crate) fn find_piece<S: FileBytes>(
     alloc: Global,
     source: &S,
     plan: &Plan,
@@ -161,6 +163,7 @@ fn find_piece<S: FileBytes>(
         (λ _. piece_fault facts (contents_in facts (length plan.now.lengths)) piece.now ≡ None)
         (IsFault (piece_fault facts (contents_in facts (length plan.now.lengths)) piece.now)) }
     ensures gave { IfErr result (IsGivenRead (S.answers source.now) (lengths_of_sizes known.now.lengths.items)) }
+    ensures there { IfErr result (λ _. is_within known.now.lengths.items piece.now ≡ true) }
 {
     length_of_sums();
     if !is_there(&known.lengths, piece) {

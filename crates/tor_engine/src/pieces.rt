@@ -1,5 +1,6 @@
 //! The pieces of a plan hashed, of files that may be cut short or missing, and the lengths of these files.
-ghost use Rattle.std.specs.Prelude.{◌≡◌, ◌++◌, ℕ, List, None, Option, IfErr, IfOk, IsSome, MatchResult, OnOk, length, map};
+ghost use Rattle.std.specs.Prelude.{◌≡◌, ◌++◌, ◌^◌, ◌≤◌, ℕ, All, List, None, Option, IfErr, IfOk, IsSome, MatchResult, OnOk, length};
+ghost use Rattle.std.specs.Prelude.{map};
 ghost use Rattle.std.specs.Prelude.{nat_le};
 ghost use Rattle.std.specs.List.{flat_map, list_any};
 ghost use Rattle.tor_source.specs.Source.{SourceFacts};
@@ -8,12 +9,17 @@ ghost use Rattle.tor_sums.specs.Fault.{IsFault};
 ghost use Rattle.tor_sums.specs.Given.{HasTold, IsGivenPieces};
 ghost use Rattle.tor_sums.specs.How.{IsHow};
 ghost use Rattle.tor_engine.specs.PieceFault.{first_asked_fault, first_piece_fault, lengths_told};
-ghost use Rattle.tor_engine.specs.PieceHashes.{piece_hashes, pieces_of_plan};
-ghost use Rattle.tor_engine.specs.There.{HasHashesWithin};
+ghost use Rattle.tor_engine.specs.PieceFault.{units_piece_fault};
+ghost use Rattle.tor_engine.specs.PieceHashes.{hashes_of_units, piece_hashes, pieces_of_plan, pieces_of_units};
+ghost use Rattle.tor_engine.specs.Rows.{units_between};
+ghost use Rattle.tor_engine.specs.There.{HasHashesWithin, HaveHashesOf};
+ghost use Rattle.tor_plan.specs.PlanFacts.{IsPlan};
 ghost use Rattle.tor_sums.specs.steps.Given.{IsGivenKnown};
-ghost use Rattle.tor_engine.specs.steps.Pieces.{IsPaddingSum, MayHavePadding, has_long_zeros, hashes_in};
+ghost use Rattle.tor_engine.specs.steps.Pieces.{IsPaddingSum, IsUnitToHash, MayHavePadding};
+ghost use Rattle.tor_engine.specs.steps.Pieces.{has_long_zeros, hashes_in};
 
 use crate::asked::{ask_each, expect_each};
+use crate::lot::units_between;
 use crate::piece_hash::{FoundPiece, PieceHash};
 use crate::piece_work::{Known, PieceWork, UnitPieces};
 use crate::units::hash_units;
@@ -95,7 +101,7 @@ pub fn find_pieces<S: Source, R: Threads + Sync>(
         lengths,
         padding_sum,
     };
-    match hash_known(rt, alloc, source, plan, &known, how) {
+    match hash_known(rt, alloc, source, plan, plan.units(), &known, how) {
         Ok(hashes) => Ok(FoundPieces {
             hashes,
             lengths: known.lengths,
@@ -104,32 +110,83 @@ pub fn find_pieces<S: Source, R: Threads + Sync>(
     }
 }
 
-/// The hashes of the pieces, if the lengths of all files were told: those pieces are read that are wholly there, and
-/// then every length is asked again.
+/// What the pieces hash to of the units from the number `from` on, and before the number `to`, as [`find_pieces`] tells
+/// of all: the length of each file of the plan is asked, and no byte of any other unit is read.
+pub fn find_pieces_between<S: Source, R: Threads + Sync>(
+    rt: &R,
+    alloc: Global,
+    source: &S,
+    plan: &Plan,
+    from: usize,
+    to: usize,
+    how: How,
+) -> Result<FoundPieces, EngineError<S::Fault>>
+    requires how { IsHow how }
+    requires ordered { from ≤ to }
+    requires within { to ≤ length plan.now.units }
+    ensures hashed { (facts : SourceFacts S.Fault) → S.is_steady source.now facts →
+        MatchResult result
+        (λ found. (found.hashes.items ≡ hashes_of_units plan.now (contents_in facts (length plan.now.lengths))
+        (units_between from to plan.now.units))
+        × (found.lengths.items ≡ lengths_told facts (length plan.now.lengths))
+        × (units_piece_fault facts plan.now (units_between from to plan.now.units) ≡ None))
+        (IsFault (units_piece_fault facts plan.now (units_between from to plan.now.units))) }
+    ensures told { IfOk result (λ found. HasTold (S.answers source.now) found.lengths.items) }
+    ensures there { IfOk result (λ found. HaveHashesOf found.lengths.items
+        (pieces_of_units plan.now.piece_length (units_between from to plan.now.units)) found.hashes.items) }
+    ensures counted { IfOk result (λ found. length found.lengths.items ≡ length plan.now.lengths) }
+    ensures gave { IfErr result (IsGivenPieces (S.answers source.now) (length plan.now.lengths)) }
+{
+    let lengths = match ask_each(alloc, source, plan.lengths().len()) {
+        Ok(lengths) => lengths,
+        Err(error) => return Err(error),
+    };
+    let padding_sum = padding_sum(alloc, plan)?;
+    let known = Known {
+        lengths,
+        padding_sum,
+    };
+    let units = units_between(plan.units(), from, to);
+    match hash_known(rt, alloc, source, plan, units, &known, how) {
+        Ok(hashes) => Ok(FoundPieces {
+            hashes,
+            lengths: known.lengths,
+        }),
+        Err(error) => Err(error),
+    }
+}
+
+/// The hashes of the pieces of units, if the lengths of all files were told: those pieces are read that are wholly
+/// there, and then every length is asked again.
 fn hash_known<S: Source, R: Threads + Sync>(
     rt: &R,
     alloc: Global,
     source: &S,
     plan: &Plan,
+    units: &[PlanUnit],
     known: &Known,
     how: How,
 ) -> Result<Vec<Option<PieceHash>>, EngineError<S::Fault>>
+    requires planned { IsPlan plan.now }
+    requires units { All (IsUnitToHash plan.now) units.now }
+    requires few { length units.now ≤ 2 ^ 62 }
     requires padding { IsPaddingSum plan.now known.now.padding_sum }
     requires counted { length known.now.lengths.items ≡ length plan.now.lengths }
     ensures hashed { (facts : SourceFacts S.Fault) → S.is_steady source.now facts →
         known.now.lengths.items ≡ lengths_told facts (length plan.now.lengths) →
         first_asked_fault facts (length plan.now.lengths) ≡ None →
         MatchResult result
-        (λ hashes. (hashes.items ≡ piece_hashes plan.now (contents_in facts (length plan.now.lengths)))
-        × (first_piece_fault facts plan.now ≡ None))
-        (IsFault (first_piece_fault facts plan.now)) }
+        (λ hashes. (hashes.items ≡ hashes_of_units plan.now (contents_in facts (length plan.now.lengths)) units.now)
+        × (units_piece_fault facts plan.now units.now ≡ None))
+        (IsFault (units_piece_fault facts plan.now units.now)) }
     ensures unchanged { (facts : SourceFacts S.Fault) → S.is_steady source.now facts →
         OnOk result (known.now.lengths.items ≡ lengths_told facts (length plan.now.lengths)) }
-    ensures there { IfOk result (λ hashes. HasHashesWithin plan.now known.now.lengths.items hashes.items) }
-    ensures counted { IfOk result (λ hashes. length hashes.items ≡ length (pieces_of_plan plan.now)) }
+    ensures there { IfOk result (λ hashes. HaveHashesOf known.now.lengths.items
+        (pieces_of_units plan.now.piece_length units.now) hashes.items) }
+    ensures counted { IfOk result (λ hashes.
+        length hashes.items ≡ length (pieces_of_units plan.now.piece_length units.now)) }
     ensures gave { IfErr result (IsGivenKnown (S.answers source.now) known.now.lengths.items) }
 {
-    let units = plan.units();
     let work = PieceWork {
         alloc,
         source,
@@ -153,7 +210,7 @@ fn hash_known<S: Source, R: Threads + Sync>(
 }
 
 /// The SHA-1 of a whole piece of padding, if the plan may have one.
-fn padding_sum(alloc: Global, plan: &Plan) -> Result<Option<[u8; 20]>, AllocError>
+pub(crate) fn padding_sum(alloc: Global, plan: &Plan) -> Result<Option<[u8; 20]>, AllocError>
     ensures { IfOk result (λ sum. IsPaddingSum plan.now sum × (MayHavePadding plan.now → IsSome sum)) }
 {
     length_of_sums();
@@ -202,7 +259,10 @@ fn hashes_of_pieces(
 }
 
 /// Adds the hashes of pieces.
-fn push_hashes(all: &mut Vec<Option<PieceHash>>, pieces: &[FoundPiece]) -> Result<(), AllocError>
+pub(crate) fn push_hashes(
+    all: &mut Vec<Option<PieceHash>>,
+    pieces: &[FoundPiece],
+) -> Result<(), AllocError>
     ensures { IfOk result (λ _. all.new.items ≡ all.old.items ++ map hashes_in pieces.now) }
 {
     'pieces: for piece in pieces {

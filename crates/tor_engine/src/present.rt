@@ -1,5 +1,5 @@
 //! Whether units and pieces are there, by the lengths that were told of their files.
-ghost use Rattle.std.specs.Prelude.{◌≡◌, ◌+◌, ◌<◌, ◌^◌, All, slice_get};
+ghost use Rattle.std.specs.Prelude.{◌≡◌, ◌+◌, ◌<◌, ◌^◌, All, None, slice_get, slice_index_or};
 ghost use Rattle.tor_engine.specs.There.{is_part_within, is_within, length_told};
 
 use tor_plan::{Part, PlanUnit};
@@ -30,6 +30,13 @@ fn length_told(told: &[Option<u64>], file: u64) -> u64
     ensures { result ≡ length_told told.now file }
 {
     item_at(told, file as usize).flatten().unwrap_or(0)
+}
+
+/// The length that was told of a file, none of one that is missing.
+pub(crate) fn size_told(told: &[Option<u64>], file: u64) -> Option<u64>
+    ensures { result ≡ slice_index_or told.now file None }
+{
+    item_at(told, file as usize).flatten()
 }
 
 /// The element at an index; none past the end.

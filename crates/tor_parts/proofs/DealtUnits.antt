@@ -54,6 +54,32 @@ pub all_before : (b at i : ℕ) (units : List PlanUnit) → length units ≤ i �
 unfolding units_before
 all_before b at i units past = rw (drop_all i units past) refl
 
+-- from the first that does not begin before a byte one goes on to a later byte
+pub resumed : (b c at : ℕ) (units : List PlanUnit) → b ≤ c
+    → units_before c at units
+    ≡ units_before b at units + units_before c (at + bytes_of (take (units_before b at units) units))
+    (drop (units_before b at units) units)
+unfolding units_before
+resumed b c at [] le = refl
+resumed b c at (unit ∷ units) le = elim (cases_lt at b) [
+  | inl below ↦
+      let n = units_before b (at + unit_length unit) units in
+      let long : at + unit_length unit + bytes_of (take n units) ≡ at + bytes_of (unit ∷ take n units) =
+      omega (arith, sum_by-cons unit_length unit (take n units)) in
+      let next = resumed b c (at + unit_length unit) units le in
+      let there : units_before c (at + unit_length unit + bytes_of (take n units)) (drop n units)
+      ≡ units_before c (at + bytes_of (unit ∷ take n units)) (drop n units) =
+      ap (λ m. units_before c m (drop n units)) long in
+      rw (lt-ltb at b below, lt-ltb at c (omega (arith, below, le))) (omega (arith, next, there))
+  | inr past ↦
+      rw (le-ltb at b past) (same at (unit ∷ units))
+]
+  where
+    same : (m : ℕ) (us : List PlanUnit) → units_before c m us ≡ 0 + units_before c (m + 0) us
+    same m us = let e : m ≡ m + 0 = omega arith in
+        ap (λ k. units_before c k us) e
+        ∙ (let f : units_before c (m + 0) us ≡ 0 + units_before c (m + 0) us = omega arith in f)
+
 -- a unit is among those that begin before a byte exactly if it does
 is_before : (b at k : ℕ) (units : List PlanUnit) → k < units_before b at units → at + bytes_of (take k units) < b
 unfolding units_before
@@ -100,7 +126,7 @@ few_bytes size (unit ∷ units) small =
 
 -- ---- where lots begin
 
-byte_grows : (q r k : ℕ) → k * q + min k r ≤ (k + 1) * q + min (k + 1) r
+pub byte_grows : (q r k : ℕ) → k * q + min k r ≤ (k + 1) * q + min (k + 1) r
 byte_grows q r k = omega arith
 
 byte_steps : (q r k : ℕ) → (k + 1) * q + min (k + 1) r ≤ k * q + min k r + (q + 1)

@@ -35,7 +35,7 @@ module _ (p : ℕ) (allowed : IsPieceLength p) where
   short_count [] short = sym (ceil_is 0 p 0 (omega arith) (omega (arith, some_length p allowed)))
   short_count (byte ∷ bytes) short = sym (ceil_is (length (byte ∷ bytes)) p 1 (omega (arith, short)) (omega arith))
 
-  counted : (content : List ℕ) → length (hashes_of_file p content) ≡ div_ceil (length content) p
+  pub counted : (content : List ℕ) → length (hashes_of_file p content) ≡ div_ceil (length content) p
   counted content = elim (cases_lt p (length content)) [
     | inl long ↦ ap length (long_is content long) ∙ count_of_piece_roots content p
     | inr short ↦ ap length (short_is content short) ∙ short_count content short

@@ -1,8 +1,11 @@
 pub mod DealtUnits
 pub mod FileTrees
+pub mod FirstFaults
 pub mod LotLawful
 pub mod LotHashes
 pub mod LotsJoined
+pub mod OneLot
+pub mod OwnPieces
 pub mod PlanSums
 pub mod PlanUnits
 pub mod ProvedLaws

@@ -7,13 +7,13 @@ use Rattle.std.specs.List.{All}
 use Rattle.tor_merkle.specs.Layer.{IsPieceLength}
 use Rattle.tor_merkle.specs.declared.TheConstants.{MAX_LENGTH, MAX_PIECE_LENGTH, MIN_PIECE_LENGTH}
 use Rattle.tor_plan.specs.PlanFacts.{IsPlan, IsPlanPieceLength, PlanFacts}
-use Rattle.tor_plan.specs.WithinEntries.{unit_length}
+use Rattle.tor_plan.specs.WithinEntries.{IsInFile, unit_length}
 use Rattle.tor_plan.proofs.ProvedLaws.{entry_units_are_within_files}
 use Rattle.tor_tree.specs.Kinds.{has_v2}
 use Rattle.tor_tree.specs.declared.kinds.Kind.{Kind}
 use Rattle.tor_tree.specs.declared.kinds.Kind.TheVariants.{V1, V2, Hybrid}
 
-some_piece : (kind : Kind) (p : ℕ) → IsPlanPieceLength kind p → 0 < p
+pub some_piece : (kind : Kind) (p : ℕ) → IsPlanPieceLength kind p → 0 < p
 some_piece V1 p pieces = omega (arith, pieces.0)
 some_piece V2 p pieces = omega (arith, pieces.1)
 some_piece Hybrid p pieces = omega (arith, pieces.1)
@@ -38,6 +38,14 @@ small_units plan is =
     let unit = entry_units_are_within_files plan.kind plan.piece_length is.span is.entries (omega (arith, is.is_span.1))
     (some_piece plan.kind plan.piece_length is.pieces) is.is_list.laid_out k d there in
     omega (arith, unit.within, small_size plan is))
+
+-- all parts are in files of the plan
+pub units_in_files : (plan : PlanFacts) → IsPlan plan → All (λ unit. All (IsInFile plan.lengths) unit.parts) plan.units
+units_in_files plan is =
+    subst (λ (p : PlanFacts). All (λ unit. All (IsInFile p.lengths) unit.parts) p.units) (sym is.made)
+    (λ k d there.
+    (entry_units_are_within_files plan.kind plan.piece_length is.span is.entries (omega (arith, is.is_span.1))
+    (some_piece plan.kind plan.piece_length is.pieces) is.is_list.laid_out k d there).parts)
 
 pub small_lengths : (plan : PlanFacts) → IsPlan plan → All (λ m. m ≤ MAX_LENGTH) plan.lengths
 small_lengths plan is =

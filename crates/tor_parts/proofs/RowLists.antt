@@ -13,7 +13,7 @@ use Rattle.tor_parts.specs.JoinedRows.{AreContentsOfEach, AreRowsOf, AreRowsOfEa
 use Rattle.tor_parts.proofs.DealtUnits.{all_dealt}
 use Rattle.tor_parts.proofs.LotsJoined.{joined}
 
-by_number : {Y : Type 0} (f : PieceRow → List Y) (rows : List PieceRow) (d : PieceRow) (a n : ℕ)
+pub by_number : {Y : Type 0} (f : PieceRow → List Y) (rows : List PieceRow) (d : PieceRow) (a n : ℕ)
     → a + n ≡ length rows
     → flat_map (λ k. f (get_or rows k d)) (range_with_len a n) ≡ flat_map f (drop a rows)
 by_number f rows d a zero all = sym (ap (flat_map f) (drop_all a rows (omega (arith, all))))

@@ -1,10 +1,15 @@
 //! Laws over the definitions, and the limit of lots.
 ghost use Rattle.std.specs.Prelude.{◌≡◌, ◌↔◌, ◌<◌, ◌≤◌, ◌+◌, ◌/◌, ℕ, All, List, length, take};
 ghost use Rattle.std.specs.List.{flat_map, range_with_len};
+ghost use Rattle.std.specs.Prelude.{slice_index_or};
 ghost use Rattle.tor_engine.specs.Rows.{IsRowOf};
+ghost use Rattle.tor_engine.specs.declared.lot.PieceRow.{PieceRow};
 ghost use Rattle.tor_parts.specs.Dealing.{bytes_of, dealt, first_byte, first_unit};
+ghost use Rattle.tor_parts.specs.JoinedRows.{HasAllPieces};
+ghost use Rattle.tor_parts.specs.LotCounts.{HasOwnPieces};
+ghost use Rattle.tor_parts.specs.LotText.{IsLot, LotFacts, lot_bytes};
 ghost use Rattle.tor_parts.specs.declared.lot_text.TheConstants.{MAX_LOTS};
-ghost use Rattle.tor_plan.specs.PlanFacts.{PlanFacts};
+ghost use Rattle.tor_plan.specs.PlanFacts.{IsPlan, PlanFacts};
 ghost use Rattle.tor_plan.specs.WithinEntries.{unit_length};
 ghost use Rattle.tor_plan.specs.declared.units.PlanUnit.{PlanUnit};
 
@@ -36,6 +41,19 @@ pub fn rows_are_joined()
         IsRowOf plan contents (dealt lots lot plan.units) (hashes lot) (pieces lot)) →
         IsRowOf plan contents plan.units (flat_map hashes (range_with_len 0 lots))
         (flat_map pieces (range_with_len 0 lots)) }
+{}
+
+/// Rows that have, each for itself, as many hashes as the pieces of its lot want have as many as all pieces want.
+pub fn rows_have_all_pieces()
+    ensures { (plan : PlanFacts) → IsPlan plan → (rows : List PieceRow) → 0 < length rows →
+        ((lot : ℕ) (d : PieceRow) → lot < length rows →
+        HasOwnPieces plan (dealt (length rows) lot plan.units) (slice_index_or rows lot d)) →
+        HasAllPieces plan rows }
+{}
+
+/// Bytes are those of one lot at most.
+pub fn bytes_are_of_one_lot()
+    ensures { (one other : LotFacts) → IsLot one → IsLot other → lot_bytes one ≡ lot_bytes other → one ≡ other }
 {}
 
 /// The most lots that a plan may be dealt in.

@@ -14,12 +14,15 @@
 //! }
 //! ```
 //!
-//! - [`deal`] (`dealing.rt`): the units of each of so many lots. [`hash_dealt`] (`hashing.rt`) hashes those of one.
+//! - [`deal`] (`dealing.rt`): the units of each of so many lots; [`deal_all`]: of all of them at once. [`hash_dealt`]
+//!   (`hashing.rt`) hashes those of one; [`hash_own`] (`own_lot.rt`) asks the lengths of its files too, before and
+//!   after (`own_files.rt`).
 //! - [`Lot`], [`write_lot`], [`read_lot`] (`lot_text.rt`): what one machine hashed, as bytes.
 //! - [`join_sums`] (`joining.rt`): the sums of the files, from the hashes of all pieces; [`join_rows`] (`rows.rt`):
-//!   from those of each lot. [`has_all_pieces`] (`counting.rt`): whether rows have as many as all pieces want.
+//!   from those of each lot. [`has_all_pieces`] (`counting.rt`): whether rows have as many as all pieces want;
+//!   [`has_own_pieces`] (`own_counts.rt`): whether one has as many as those of its own units want.
 //! - [`laws`] (`laws.rt`): the lots have each unit once and about as many bytes, and their hashes are those of all
-//!   pieces; how many lots there may be.
+//!   pieces, as many as these want; how many lots there may be.
 #![tactic(auto)]
 
 mod counting;
@@ -28,11 +31,16 @@ mod hashing;
 mod joining;
 pub mod laws;
 mod lot_text;
+mod own_counts;
+mod own_files;
+mod own_lot;
 mod rows;
 
 pub use counting::has_all_pieces;
-pub use dealing::deal;
+pub use dealing::{deal, deal_all};
 pub use hashing::hash_dealt;
 pub use joining::join_sums;
 pub use lot_text::{Lot, MAX_LOTS, read_lot, write_lot};
+pub use own_counts::has_own_pieces;
+pub use own_lot::hash_own;
 pub use rows::join_rows;

@@ -7,6 +7,7 @@ pub mod Counted
 pub mod PieceRows
 pub mod FoundBytes
 pub mod RangeBytes
+pub mod ReadableBits
 pub mod FromIndex
 pub mod JoinedPieces
 pub mod Judged
@@ -36,3 +37,16 @@ pub mod PartsOfFiles
 pub mod MissingFiles
 pub mod Sums
 pub mod Within
+pub mod SpanFits
+pub mod BadRanges
+pub mod RangeSteps
+pub mod LotPieces
+pub mod LotFiles
+pub mod LotFound
+pub mod LotAnswers
+pub mod LotGiven
+pub mod Bitfields
+pub mod DealtLots
+pub mod ByteOfPiece
+pub mod BytesOfPieces
+pub mod LotRows

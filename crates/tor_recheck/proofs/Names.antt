@@ -8,7 +8,8 @@ pub use Rattle.std.proofs.Common.{sum_by, sym, take, true, unsigned_abs, unwrap_
 pub use Rattle.std.proofs.Common.{◌*◌, ◌++◌, ◌+◌, ◌-◌, ◌/◌, ◌<◌, ◌==◌, ◌^◌, ◌||◌, ◌↔◌, ◌∙◌, ◌∷◌, ◌≡◌, ◌≢◌, ◌≤◌, ◌⊎◌}
 pub use Rattle.std.proofs.Math.Bool.{beq}
 pub use Rattle.std.proofs.Math.ListN.{drop_of_length-le, get_or-map, set}
-pub use Rattle.std.proofs.Math.Nat.{div-div-eq-div-mul, mod_self, pow-suc, zero-mod}
+pub use Rattle.std.proofs.Math.Nat.{add-mul-div_right, add-mul-mod_self_right, div-div-eq-div-mul, mod-lt, mod_self}
+pub use Rattle.std.proofs.Math.Nat.{pow-suc, zero-div, zero-mod}
 pub use Rattle.std.proofs.Math.Seq.{take-append-add}
 pub use Rattle.std.proofs.lemmas.Bool.{and_from, and_parts, and_right, cases_Bool, cases_eq, cases_lt, cond-false}
 pub use Rattle.std.proofs.lemmas.Bool.{cond-true, eqb-true, false≢true, le-leb, le-ltb, leb-true, lt-leb, lt-ltb}
@@ -21,19 +22,20 @@ pub use Rattle.std.proofs.lemmas.List.{drop_more, get_or_append_left, get_or_pus
 pub use Rattle.std.proofs.lemmas.List.{length_push, map-append, replicate-append-replicate}
 pub use Rattle.std.proofs.lemmas.List.{reverse-append, take-append-le, take-map, take-replicate, take_all, take_min}
 pub use Rattle.std.proofs.lemmas.List.{take_more}
-pub use Rattle.std.proofs.lemmas.List.Elements.{All-from_recursion, All-get_or, filter-append}
-pub use Rattle.std.proofs.lemmas.List.Folds.{list_all-append, list_all_at}
+pub use Rattle.std.proofs.lemmas.List.Elements.{All-nil, All-push, All-from_recursion, All-get_or, filter-append}
+pub use Rattle.std.proofs.lemmas.List.Folds.{list_all-append, list_all_at, list_any-append}
 pub use Rattle.std.proofs.lemmas.List.FromFn.{fill_by_all, get_or-map-range_with_len, length-map-range_with_len}
 pub use Rattle.std.proofs.lemmas.List.FromFn.{map-range_with_len_more, sum_by-map-range_with_len_more}
+pub use Rattle.std.proofs.lemmas.List.Quantifiers.{all_pairs_push}
 pub use Rattle.std.proofs.lemmas.List.Sorted.{IsPermutation-reverse, list_any-IsPermutation, sum_by-IsPermutation}
 pub use Rattle.std.proofs.lemmas.List.Sums.{count_by-le-length}
 pub use Rattle.std.proofs.lemmas.List.Sums.{count_by_more_no, count_by_more_yes, sum_by-append, sum_by-cons}
 pub use Rattle.std.proofs.lemmas.List.Sums.{sum_by-le-sum_by}
-pub use Rattle.std.proofs.lemmas.Nat.{div_below, le-div, or_of_8}
+pub use Rattle.std.proofs.lemmas.Nat.{div-add-mod', div-mul-add, div_below, le-div, or_of_8}
 pub use Rattle.std.proofs.lemmas.Nat.Bits.{bit_at-lt, bit_at_set_other, bit_at_set_same, shr_and_one}
 pub use Rattle.std.proofs.lemmas.Option.{slice_get-get_or, slice_get_past}
 pub use Rattle.std.specs.Int.{bit_at, div_ceil, next_multiple_of}
-pub use Rattle.std.specs.List.{All, AllByRecursion, flat_map, list_all, list_any, range_with_len}
+pub use Rattle.std.specs.List.{All, AllByRecursion, AllPairs, flat_map, list_all, list_any, range_with_len}
 pub use Rattle.std.specs.Option.{option_eq, option_or}
 pub use Rattle.std.specs.Prelude.{if◌then◌else◌}
 pub use Rattle.std.specs.Prelude.{filter, slice_get}
@@ -73,6 +75,8 @@ pub use Rattle.tor_plan.specs.Present.{is_part_there, is_there}
 pub use Rattle.tor_plan.specs.declared.units.Part.{Part}
 pub use Rattle.tor_plan.specs.declared.units.PlanUnit.{PlanUnit}
 pub use Rattle.tor_recheck.specs.Bitfield.{bit_of, bitfield, byte_from, set_count}
+pub use Rattle.tor_recheck.specs.FileBytes.{AreBadRanges, AreRangesOf, PiecedFile, is_bad_byte, is_in_ranges}
+pub use Rattle.tor_recheck.specs.FileBytes.{piece_of_byte, pieced_files}
 pub use Rattle.tor_recheck.specs.Files.{AllHold, AreFewer, AreThere, OneFails}
 pub use Rattle.tor_recheck.specs.Files.{file_found, file_spans, files_found, found_at, has_bytes_of, held_pieces}
 pub use Rattle.tor_recheck.specs.Files.{joined_span, tree_span}
@@ -83,9 +87,11 @@ pub use Rattle.tor_recheck.specs.Pieces.{is_right, no_file, part_root, piece_roo
 pub use Rattle.tor_recheck.specs.Pieces.{told_hashes}
 unfoldable pub use Rattle.tor_recheck.specs.Pieces.{right_pieces}
 pub use Rattle.tor_recheck.specs.Recheck.{IsFault, IsGiven, first_fault, of_engine_error}
+pub use Rattle.tor_recheck.specs.declared.file_pieces.ByteRange.{ByteRange}
 pub use Rattle.tor_recheck.specs.declared.files.FileFound.{FileFound}
 pub use Rattle.tor_recheck.specs.declared.files.FileState.TheVariants.{Bad, Short, Whole}
 pub use Rattle.tor_recheck.specs.declared.spans.FileSpan.{FileSpan}
+pub use Rattle.tor_recheck.specs.steps.FileBytes.{IsSpanOf, with_range}
 pub use Rattle.tor_recheck.specs.steps.Hashes.{hashes_in}
 pub use Rattle.tor_recheck.specs.steps.Judge.{all_held, all_judged, all_merkle_judged, is_found, is_merkle_found}
 pub use Rattle.tor_recheck.specs.steps.Judge.{is_told, judged, merkle_judged, texts_of}

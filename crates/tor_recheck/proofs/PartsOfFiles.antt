@@ -84,14 +84,14 @@ module _ (p k : ℕ) (some : 0 < p) where
 -- ---- units of files that are cut each by itself
 
 module _ (p : ℕ) (some : 0 < p) where
-  unit_here : (index m tail k : ℕ) (rest : List PlanUnit) → k < div_ceil m p
+  pub unit_here : (index m tail k : ℕ) (rest : List PlanUnit) → k < div_ceil m p
       → get_or (units_of_file p index m tail ++ rest) k empty_unit ≡ file_unit p index m tail k
   unit_here index m tail k rest lt =
       let count = length-map-range_with_len (file_unit p index m tail) 0 (div_ceil m p) in
       get_or_append_left (units_of_file p index m tail) rest empty_unit k (omega (arith, lt, count))
       ∙ get_or-map-range_with_len (file_unit p index m tail) 0 (div_ceil m p) k k empty_unit lt (omega arith)
 
-  unit_later : (index m tail k : ℕ) (rest : List PlanUnit) → div_ceil m p ≤ k
+  pub unit_later : (index m tail k : ℕ) (rest : List PlanUnit) → div_ceil m p ≤ k
       → get_or (units_of_file p index m tail ++ rest) k empty_unit ≡ get_or rest (k - div_ceil m p) empty_unit
   unit_later index m tail k rest le =
       get_or-append_right (units_of_file p index m tail) rest (div_ceil m p) k empty_unit
@@ -188,13 +188,13 @@ module _ (p : ℕ) (some : 0 < p) where
 
 -- ---- all pieces
 
-cut_joined : (kind : Kind) (p : ℕ) (entries : List Entry) → has_v2 kind ≡ false
+pub cut_joined : (kind : Kind) (p : ℕ) (entries : List Entry) → has_v2 kind ≡ false
     → entry_units kind p 1 entries ≡ joined_entry_units p entries
 cut_joined V1 p entries none = ap (λ n. joined_entry_units n entries) (let e : 1 * p ≡ p = omega arith in e)
 cut_joined V2 p entries none = cc
 cut_joined Hybrid p entries none = cc
 
-joined_at : (p : ℕ) (entries : List Entry) (k : ℕ) → k < div_ceil (entries_length entries) p
+pub joined_at : (p : ℕ) (entries : List Entry) (k : ℕ) → k < div_ceil (entries_length entries) p
     → get_or (joined_entry_units p entries) k empty_unit ≡ joined_entry_unit p entries k
 unfolding joined_entry_units
 joined_at p entries k lt =

@@ -9,6 +9,8 @@ use Rattle.tor_recheck.proofs.Names.{pieces_in, FileView, View, has_v1, has_v2, 
 use Rattle.tor_recheck.proofs.MerklePieces.{has_hash, length_of, merkle_piece, same_count}
 use Rattle.tor_recheck.proofs.PieceSides.{by_sides, count_of_joined, cut_each, IsRun, other_side, same_lengths}
 use Rattle.tor_recheck.proofs.PieceSides.{same_sha1, some_piece, unit_is_run}
+pub use Rattle.tor_recheck.proofs.Bitfields.{bitfields_joined}
+pub use Rattle.tor_recheck.proofs.DealtLots.{bits_dealt, bytes_dealt, counts_dealt}
 pub use Rattle.tor_recheck.proofs.ValidAreCut.{valid_torrents_are_cut}
 
 -- ---- the number of pieces

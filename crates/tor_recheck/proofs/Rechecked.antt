@@ -75,7 +75,7 @@ module _ (view : View) (contents : List (List ℕ)) (cut : IsCut view) where
       by_there (is_there contents piece) i piece (run_at 20 view.pieces i) (get_or (told_hashes view) i [])
 
   -- one after another
-  judged_from : (hashes : List (Option PieceHash)) (i : ℕ) (pieces : List PlanUnit)
+  pub judged_from : (hashes : List (Option PieceHash)) (i : ℕ) (pieces : List PlanUnit)
       → drop i hashes ≡ map (hash_if_there plan contents) pieces
       → map (judged view hashes) (range_with_len i (length pieces)) ≡ right_pieces view contents i pieces
   unfolding right_pieces

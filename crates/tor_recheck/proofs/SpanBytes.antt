@@ -8,7 +8,7 @@ use Rattle.tor_recheck.proofs.Names.{div_ceil, shared, joined_span, no_span, Fil
 -- ---- tests
 
 -- two tests that hold together are the same
-same_tests : (a b : Bool) → (a ≡ true → b ≡ true) → (b ≡ true → a ≡ true) → a ≡ b
+pub same_tests : (a b : Bool) → (a ≡ true → b ≡ true) → (b ≡ true → a ≡ true) → a ≡ b
 same_tests true b to from = sym (to refl)
 same_tests false true to from = absurd (false≢true (from refl))
 same_tests false false to from = refl

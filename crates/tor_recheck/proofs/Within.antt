@@ -5,7 +5,9 @@ use Rattle.tor_recheck.proofs.Names.{get_or-map-range_with_len, get_or_past, len
 use Rattle.tor_recheck.proofs.Names.{cases_Bool, cond-false, cond-true, is_some, PieceHash, View, empty_unit}
 use Rattle.tor_recheck.proofs.Names.{pieces_of, has_v2, HaveHashesOf, AreWithin, is_within, all_held, all_judged}
 use Rattle.tor_recheck.proofs.Names.{all_merkle_judged, is_found, is_merkle_found, judged, merkle_judged, subst}
-use Rattle.tor_recheck.proofs.Names.{AreAmong, and_parts, is_told}
+use Rattle.tor_recheck.proofs.Names.{AreAmong, and_parts, is_told, PlanUnit}
+use Rattle.tor_engine.specs.Readable.{HasHashWithin}
+use Rattle.tor_sums.specs.steps.Each.{SumUpEach}
 
 -- past the end there is no bit that is set
 set_at : {A : Type 0} (f : A → Bool) (xs : List A) (k : ℕ) (d : A) → get_or (map f xs) k false ≡ true
@@ -57,21 +59,37 @@ right_are_held view hashes k is = elim (cases_Bool (has_v2 view.kind)) [
       (sym (cond-false (has_v2 view.kind) (all_merkle_judged view hashes) (all_judged view hashes) none)) is
 ]
 
-module _ (view : View) (told : List (Option ℕ)) (hashes : List (Option PieceHash))
-    (there : HaveHashesOf told (pieces_of view) hashes) where
-  some_within : (k : ℕ) → is_some (get_or hashes k None) ≡ true
-      → is_within told (get_or (pieces_of view) k empty_unit) ≡ true
-  some_within k is =
-      set_at (is_within told) (pieces_of view) k empty_unit
-      (ap (λ bits. get_or bits k false) (sym there) ∙ get_or-map is_some hashes k None ∙ is)
+-- a piece that has a hash lies within these lengths
+abbrev pub SomeWithin : View → List (Option ℕ) → List (Option PieceHash) → Type 0
+SomeWithin view told hashes =
+    (k : ℕ) → is_some (get_or hashes k None) ≡ true → is_within told (get_or (pieces_of view) k empty_unit) ≡ true
 
+pub some_within : (view : View) (told : List (Option ℕ)) (hashes : List (Option PieceHash))
+    → HaveHashesOf told (pieces_of view) hashes → SomeWithin view told hashes
+some_within view told hashes there k is =
+    set_at (is_within told) (pieces_of view) k empty_unit
+    (ap (λ bits. get_or bits k false) (sym there) ∙ get_or-map is_some hashes k None ∙ is)
+
+pub each_within : (told : List (Option ℕ)) (pieces : List PlanUnit) (hashes : List (Option PieceHash))
+    → SumUpEach (HasHashWithin told) pieces hashes → (k : ℕ) → is_some (get_or hashes k None) ≡ true
+    → is_within told (get_or pieces k empty_unit) ≡ true
+unfolding SumUpEach
+each_within told [] [] each zero is = absurd (false≢true is)
+each_within told [] [] each (suc k) is = absurd (false≢true is)
+each_within told [] (hash ∷ hashes) each k is = absurd each
+each_within told (piece ∷ pieces) [] each k is = absurd each
+each_within told (piece ∷ pieces) (hash ∷ hashes) each zero is = each.0 is
+each_within told (piece ∷ pieces) (hash ∷ hashes) each (suc k) is = each_within told pieces hashes each.1 k is
+
+module _ (view : View) (told : List (Option ℕ)) (hashes : List (Option PieceHash))
+    (within : SomeWithin view told hashes) where
   pub judged_within : AreWithin view told (all_judged view hashes)
   judged_within k is =
-      some_within k (found_is_some (get_or hashes k None) _ _ (set_in_range (judged view hashes) (length hashes) k is))
+      within k (found_is_some (get_or hashes k None) _ _ (set_in_range (judged view hashes) (length hashes) k is))
 
   merkle_within : AreWithin view told (all_merkle_judged view hashes)
   merkle_within k is =
-      some_within k (merkle_is_some (get_or hashes k None) _
+      within k (merkle_is_some (get_or hashes k None) _
       (set_in_range (merkle_judged view hashes) (length hashes) k is))
 
   pub held_within : AreWithin view told (all_held view hashes)

@@ -1,5 +1,5 @@
 -- What is told of each file of a torrent: which pieces have bytes of it, how many of these hold, and its state.
-use Rattle.std.specs.Prelude.{◌≡◌, ℕ, ◌+◌, ◌-◌, ◌/◌, ◌<◌, ◌≤◌, ◌==◌, Bool, true, false, List, [], ◌∷◌, length, map}
+use Rattle.std.specs.Prelude.{◌≡◌, ℕ, ◌+◌, ◌-◌, ◌/◌, ◌%◌, ◌<◌, ◌≤◌, ◌==◌, Bool, true, false, List, [], ◌∷◌, length, map}
 use Rattle.std.specs.Prelude.{nat_lt, slice_index_or, Option, None, Some, if◌then◌else◌}
 use Rattle.std.specs.Int.{div_ceil}
 use Rattle.std.specs.List.{list_any, range_with_len}
@@ -33,6 +33,7 @@ joined_span p start n = record {
   length = n;
   first = start / p;
   after = if nat_lt 0 n then div_ceil (start + n) p else start / p;
+  lead = start % p;
 }
 
 -- of each file among joined entries, the first of which begins at byte `start`
@@ -44,7 +45,7 @@ joined_spans p start (entry ∷ entries) =
 
 -- of a file of n bytes with pieces of its own, from this one on
 abbrev pub tree_span : ℕ → ℕ → ℕ → FileSpan
-tree_span p first n = record { length = n; first = first; after = first + pieces_in p n }
+tree_span p first n = record { length = n; first = first; after = first + pieces_in p n; lead = 0 }
 
 -- of each file where pieces are numbered file by file, those of the first from `first` on
 abbrev pub tree_spans : ℕ → ℕ → List FileView → List FileSpan
@@ -89,7 +90,7 @@ file_found held span there = record {
 
 -- no piece
 abbrev pub no_span : FileSpan
-no_span = record { length = 0; first = 0; after = 0 }
+no_span = record { length = 0; first = 0; after = 0; lead = 0 }
 
 -- file i, where these lengths are there and these pieces hold
 abbrev pub found_at : List FileSpan → List (Option ℕ) → List Bool → ℕ → FileFound

@@ -19,6 +19,12 @@ pub enum FileState {
     Bad,
     /// It is as long as the torrent says, or longer, and each piece that has bytes of it holds.
     Whole,
+    /// Some place of it could not be read. [`files_of`] tells this of no file: it is for who tells it by
+    /// [`ReadableFindings`](crate::ReadableFindings).
+    Unreadable,
+    /// A link stands at its place, or on the way to it, and is not followed. Nor does [`files_of`] tell this: it is for
+    /// who looks for files without links.
+    Link,
 }
 
 /// What is told of one file.

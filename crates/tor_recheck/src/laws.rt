@@ -1,10 +1,14 @@
 //! Laws over the definitions, as contracts of functions that do nothing.
 ghost use Rattle.std.specs.Prelude.{◌≡◌, ◌≢◌, ◌↔◌, ◌<◌, ◌≤◌, ℕ, Bool, List, Option, [], false, length, map, None, true};
-ghost use Rattle.std.specs.Prelude.{option_map, slice_index_or, unwrap_or};
+ghost use Rattle.std.specs.Prelude.{◌%◌, ◌++◌, option_map, slice_index_or, sum_by, unwrap_or};
+ghost use Rattle.std.specs.List.{flat_map, range_with_len};
 ghost use Rattle.tor_bencode.specs.Data.{Data};
 ghost use Rattle.tor_plan.specs.Entries.{empty_unit};
 ghost use Rattle.tor_recheck.specs.Files.{AllHold, AreFewer, AreThere, OneFails, file_found, file_spans, found_at};
 ghost use Rattle.tor_recheck.specs.Files.{has_bytes_of, held_pieces, no_span};
+ghost use Rattle.tor_recheck.specs.Bitfield.{bitfield, set_count};
+ghost use Rattle.tor_recheck.specs.FileBytes.{has_byte_of, piece_of_byte};
+ghost use Rattle.tor_recheck.specs.Lots.{in_lot};
 ghost use Rattle.tor_recheck.specs.Pieces.{IsCut, pieces_of, right_pieces};
 ghost use Rattle.tor_recheck.specs.declared.files.FileState.TheVariants.{Bad, Missing, Short, Whole};
 ghost use Rattle.tor_recheck.specs.declared.rechecking.TheConstants.{SPAN};
@@ -116,4 +120,30 @@ pub fn spans_are_of_pieces()
         (has_bytes_of file (slice_index_or (pieces_of view) piece empty_unit) ≡ true)
         ↔ (((slice_index_or (file_spans view) file no_span).first ≤ piece)
         × (piece < (slice_index_or (file_spans view) file no_span).after)) }
+{}
+
+/// The lots have each bit once, in order. So the bitfields of all lots, one after another, are that of all bits, and as
+/// many are set in all lots together as in all bits.
+pub fn lots_have_each_piece()
+    ensures bits { (bits : List Bool) (lots : ℕ) → 0 < lots →
+        flat_map (λ lot. in_lot lots lot bits) (range_with_len 0 lots) ≡ bits }
+    ensures bytes { (bits : List Bool) (lots : ℕ) → 0 < lots →
+        flat_map (λ lot. bitfield (in_lot lots lot bits)) (range_with_len 0 lots) ≡ bitfield bits }
+    ensures counts { (bits : List Bool) (lots : ℕ) → 0 < lots →
+        sum_by (λ lot. set_count (in_lot lots lot bits)) (range_with_len 0 lots) ≡ set_count bits }
+{}
+
+/// If bits fill their bytes, the bitfield of them and of others behind them is both bitfields joined.
+pub fn bitfields_are_joined()
+    ensures { (bits others : List Bool) → length bits % 8 ≡ 0 →
+        bitfield (bits ++ others) ≡ bitfield bits ++ bitfield others }
+{}
+
+/// A piece has a byte of a file exactly if it is one of the file's bytes, and the piece of that byte.
+pub fn pieces_have_their_bytes()
+    ensures { (view : View) (file b piece : ℕ) → IsCut view → piece < view.piece_count →
+        (has_byte_of file b (slice_index_or (pieces_of view) piece empty_unit) ≡ true)
+        ↔ ((b < (slice_index_or (file_spans view) file no_span).length)
+        × (piece_of_byte (record { piece_length = view.piece_length; span = slice_index_or (file_spans view) file no_span }) b
+        ≡ piece)) }
 {}

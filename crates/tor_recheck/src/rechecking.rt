@@ -4,7 +4,7 @@ ghost use Rattle.tor_sums.specs.Contents.{contents_in};
 ghost use Rattle.tor_sums.specs.Given.{HasTold};
 ghost use Rattle.tor_sums.specs.How.{IsHow};
 ghost use Rattle.tor_engine.specs.PieceFault.{lengths_told};
-ghost use Rattle.tor_plan.specs.PlanFacts.{plan_of_entries};
+ghost use Rattle.tor_plan.specs.PlanFacts.{IsSpan, plan_of_entries};
 ghost use Rattle.tor_engine.specs.There.{HaveHashesOf};
 ghost use Rattle.tor_recheck.specs.Pieces.{IsCut, entries_to_cut, pieces_of};
 ghost use Rattle.tor_recheck.specs.Recheck.{IsFault, IsGiven, first_fault};
@@ -27,7 +27,7 @@ use tor_source::Source;
 use tor_v1::Entry;
 
 /// The pieces that a worker takes at a time, at most.
-const SPAN: u32 = 16;
+pub(crate) const SPAN: u32 = 16;
 
 /// Which pieces of the torrent are there and right: file i of the source is its file i, padding not counted. A piece is
 /// when all its bytes are there, and have each hash that the torrent has for it; padding is always there. A file may be
@@ -87,35 +87,42 @@ pub(crate) fn found_in<S: Source, R: Threads + Sync>(
     if !how.is_allowed() {
         return Err(RecheckError::Workers);
     }
-    let plan = plan_of(alloc, torrent)?;
+    let plan = plan_of(alloc, torrent, SPAN)?;
     match find_pieces(rt, alloc, source, &plan, how) {
         Ok(found) => Ok(found),
         Err(error) => Err(error.into()),
     }
 }
 
-/// The units of the torrent's entries, or of its files if it has no v1 side.
-fn plan_of(alloc: Global, torrent: &Torrent) -> Result<Plan, AllocError>
+/// The units, of so many pieces each, of the torrent's entries, or of its files if it has no v1 side.
+pub(crate) fn plan_of(alloc: Global, torrent: &Torrent, span: u32) -> Result<Plan, AllocError>
+    requires { IsSpan span }
     ensures planned { IfOk result (λ plan. plan
-        ≡ plan_of_entries torrent.now.kind torrent.now.piece_length SPAN (entries_to_cut torrent.now)) }
+        ≡ plan_of_entries torrent.now.kind torrent.now.piece_length span (entries_to_cut torrent.now)) }
     ensures cut { IsCut torrent.now }
 {
     let files = torrent.files();
     if torrent.kind().has_v1() {
-        return cut_entries(alloc, torrent, torrent.entries());
+        return cut_entries(alloc, torrent, torrent.entries(), span);
     }
     let entries = entries_of(alloc, files)?;
-    cut_entries(alloc, torrent, &entries)
+    cut_entries(alloc, torrent, &entries, span)
 }
 
 /// The units of the entries of a torrent that are to be cut.
-fn cut_entries(alloc: Global, torrent: &Torrent, entries: &[Entry]) -> Result<Plan, AllocError>
+fn cut_entries(
+    alloc: Global,
+    torrent: &Torrent,
+    entries: &[Entry],
+    span: u32,
+) -> Result<Plan, AllocError>
     requires cut { IsCut torrent.now }
     requires entries { entries.now ≡ entries_to_cut torrent.now }
+    requires span { IsSpan span }
     ensures { IfOk result (λ plan. plan
-        ≡ plan_of_entries torrent.now.kind torrent.now.piece_length SPAN (entries_to_cut torrent.now)) }
+        ≡ plan_of_entries torrent.now.kind torrent.now.piece_length span (entries_to_cut torrent.now)) }
 {
-    Plan::of_entries(alloc, entries, torrent.kind(), torrent.piece_length(), SPAN)
+    Plan::of_entries(alloc, entries, torrent.kind(), torrent.piece_length(), span)
 }
 
 /// Files as entries.

@@ -69,7 +69,7 @@ pub fn recheck_files<S: Source, R: Threads + Sync>(
 
 /// What is told of each file: by the side that tells whose bytes a piece has, version 2 if the torrent has it, and else
 /// by the pieces that were found right.
-fn files_by(
+pub(crate) fn files_by(
     alloc: Global,
     torrent: &Torrent,
     found: &FoundPieces,

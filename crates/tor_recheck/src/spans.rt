@@ -19,6 +19,8 @@ pub(crate) struct FileSpan {
     pub first: u64,
     /// The first after them.
     pub after: u64,
+    /// How many bytes of the first stand before the file.
+    pub lead: u64,
 }
 
 /// For each file of the torrent, in its order, padding not counted.
@@ -52,6 +54,7 @@ fn tree_spans(
             length,
             first,
             after,
+            lead: 0,
         })?;
         first = after;
     }
@@ -109,5 +112,6 @@ fn joined_span(piece_length: u64, start: u64, length: u64) -> FileSpan
         } else {
             first
         },
+        lead: start % piece_length,
     }
 }

@@ -1,9 +1,11 @@
 pub mod Added
 pub mod Ends
 pub mod Entries
+pub mod ExtraRows
 pub mod FirstFault
 pub mod FoundFiles
 pub mod Inputs
+pub mod KnownPaths
 pub mod Parted
 pub mod PathOrder
 pub mod Pieces

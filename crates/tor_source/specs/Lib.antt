@@ -1,4 +1,5 @@
 pub mod Answers
+pub mod Extra
 pub mod Faults
 pub mod Filling
 pub mod Input

@@ -22,6 +22,7 @@ use crate::named::find;
 use crate::places::{one_place, places_of};
 use crate::refused::Refused;
 use crate::source::Source;
+use crate::unlinked::{Met, is_among};
 use crate::walk::walk;
 use crate::{regular, same_file};
 use std::alloc::{AllocError, Global};
@@ -38,9 +39,11 @@ use tor_tree::FilePath;
 pub struct FolderSource<R: Files> {
     rt: R,
     /// Where the system has each file.
-    places: Vec<String>,
+    pub(crate) places: Vec<String>,
     /// What a listing told of each.
     listed: ListedFiles,
+    /// How each stands, if they were looked for with no link followed; none if they were not.
+    pub(crate) met: Vec<Met>,
 }
 
 /// What a folder has: the files that can be taken, with their paths, and what is refused.
@@ -108,19 +111,19 @@ impl<R: Files + Clone + Drop> FolderSource<R> {
             return Err(ScanFault::System);
         }
         let found = walk(rt, alloc, place, ends)?;
-        let survey = FolderSource::survey_of(rt, found)?;
+        let survey = FolderSource::survey_of(rt, alloc, found)?;
         Ok(survey)
     }
 
     // What was found below a folder.
-    fn survey_of(rt: &R, found: FoundFiles) -> Result<Survey<R>, AllocError>
+    fn survey_of(rt: &R, alloc: Global, found: FoundFiles) -> Result<Survey<R>, AllocError>
         requires { vec_len found.listed.lengths ≡ vec_len found.places }
         ensures source { IfOk result (λ survey. survey.source ≡ map string_bytes found.places.items) }
         ensures paths { IfOk result (λ survey. survey.paths ≡ found.paths) }
         ensures refused { IfOk result (λ survey. survey.refused ≡ found.refused) }
     {
         Ok(Survey {
-            source: FolderSource::of_listed(rt, found.places, found.listed)?,
+            source: FolderSource::of_listed(rt, alloc, found.places, found.listed)?,
             paths: found.paths,
             refused: found.refused,
         })
@@ -147,7 +150,7 @@ impl<R: Files + Clone + Drop> FolderSource<R> {
             return Err(ScanFault::System);
         }
         let found = find(rt, alloc, folder, &files)?;
-        let survey = FolderSource::survey_of(rt, found)?;
+        let survey = FolderSource::survey_of(rt, alloc, found)?;
         Ok(survey)
     }
 
@@ -179,17 +182,22 @@ impl<R: Files + Clone + Drop> FolderSource<R> {
         FolderSource::of_places(rt, alloc, places)
     }
 
-    // The files at these places, of which nothing was told.
-    fn of_places(rt: &R, alloc: Global, places: Vec<String>) -> Result<FolderSource<R>, AllocError>
+    /// The files at these places, of which nothing was told.
+    pub(crate) fn of_places(
+        rt: &R,
+        alloc: Global,
+        places: Vec<String>,
+    ) -> Result<FolderSource<R>, AllocError>
         ensures { IfOk result (λ source. source ≡ map string_bytes places.items) }
     {
         let listed = ListedFiles::untold(alloc, places.len())?;
-        FolderSource::of_listed(rt, places, listed)
+        FolderSource::of_listed(rt, alloc, places, listed)
     }
 
     // The files at these places, and what the listing told of them.
     fn of_listed(
         rt: &R,
+        alloc: Global,
         places: Vec<String>,
         listed: ListedFiles,
     ) -> Result<FolderSource<R>, AllocError>
@@ -198,6 +206,7 @@ impl<R: Files + Clone + Drop> FolderSource<R> {
     {
         Ok(FolderSource {
             rt: rt.clone()?,
+            met: Vec::new(alloc),
             places,
             listed,
         })
@@ -208,15 +217,18 @@ impl<R: Files + Clone + Drop> FolderSource<R> {
         ensures each { IfOk result (λ readers. readers.items ≡ self.now) }
         ensures count { IfOk result (λ readers. vec_len readers ≡ length self.now) }
     {
-        readers_of(&self.rt, alloc, &self.places, &self.listed)
+        readers_of(&self.rt, alloc, &self.places, &self.listed, &self.met)
     }
 
     /// Whether one of the files is the very one of which the system told this, perhaps under another name. A file that
-    /// was listed is the one that the listing told. Of others the system is asked: a place with nothing now has another
+    /// was listed, or met, is the one that was told then. Of others the system is asked: a place with nothing now has another
     /// file, and of any other it must tell.
     pub fn has(&self, file: &Metadata) -> Result<bool, ScanFault>
         ensures { IfErr result (λ fault. (fault ≡ Memory) ⊎ (fault ≡ System)) }
     {
+        if !self.met.is_empty() {
+            return Ok(is_among(&self.met, file));
+        }
         match self.listed.has(file) {
             Some(has) => Ok(has),
             None => same_file::is_at_one_of(&self.rt, &self.places, file),
@@ -242,6 +254,9 @@ impl<R: Files + Clone + Drop> FolderSource<R> {
 ///
 /// Of a file that was not listed each call asks the system anew. What stands at its place and is no regular file is
 /// missing, as is a file whose place leads through a regular file; a symbolic link at its place is followed.
+///
+/// If no link is followed, each file is as it was met: a regular one as if it was listed, but one that was empty is
+/// missing if it is not the same any more; each other one is missing, or has the fault that the system had.
 impl<R: Files + Sync> Source for FolderSource<R>
 where
     R::File: FileExt,
@@ -260,6 +275,9 @@ where
         let Some(place) = self.places.get(file as usize) else {
             return Ok(None);
         };
+        if let Some(met) = self.met.get(file as usize) {
+            return met.length_at(&self.rt, place);
+        }
         match self.listed.lengths.get(file as usize) {
             Some(length) if 0 < *length => Ok(Some(*length)),
             _ => regular::length_at(&self.rt, place),
@@ -274,6 +292,9 @@ where
         let Some(place) = self.places.get(file as usize) else {
             return Ok(0);
         };
+        if let Some(met) = self.met.get(file as usize) {
+            return met.read_at(&self.rt, place, start, buffer);
+        }
         match self.listed.get(file as usize) {
             Some(listed) => read_listed(&self.rt, place, &listed, start, buffer),
             None => regular::read_at(&self.rt, place, start, buffer),

@@ -7,7 +7,7 @@ ghost use Rattle.tor_tree.specs.declared.paths.TheConstants.{MAX_NAMES};
 
 use crate::listed::{ListedFile, ListedFiles};
 use crate::places::{place_below, without_slash};
-use crate::refused::{Refusal, Refused, path_bytes};
+use crate::refused::{Refusal, Refused, names_bytes, path_bytes};
 use std::alloc::{AllocError, Global};
 use tor_tree::{FilePath, Name, copy_names};
 
@@ -82,10 +82,7 @@ pub(crate) fn refuse_last(
 ) -> Result<(), AllocError>
     ensures { OnOk result (HasRefused found.old (names_bytes names.now) refusal found.new) }
 {
-    let (above, last) = names.split_at(names.len().saturating_sub(1));
-    let name: &[u8] = match last.first() {
-        Some(name) => name.as_bytes(),
-        None => b"",
-    };
-    refuse(alloc, above, name, refusal, found)
+    let path = names_bytes(alloc, names)?;
+    found.refused.push(Refused { path, refusal })?;
+    Ok(())
 }

@@ -6,6 +6,7 @@ ghost use Rattle.std.specs.String.{string_bytes};
 
 use crate::listed::{ListedFile, ListedFiles, open_listed};
 use crate::regular;
+use crate::unlinked::Met;
 use std::alloc::{AllocError, Global};
 use std::io::{self, ErrorKind, Read};
 use std::marker::Model;
@@ -66,21 +67,53 @@ impl<R: Files> LazyFile<R> {
     }
 }
 
-/// A reader of the file at each of these places, of which this was told.
+/// A reader of the file at each of these places, of which this was told by a listing, or if no link is followed by how
+/// it was met. Of one that was met, and is no regular file, each read is a fault.
 pub(crate) fn readers_of<R: Files + Clone + Drop>(
     rt: &R,
     alloc: Global,
     places: &[String],
     listed: &ListedFiles,
+    met: &[Met],
 ) -> Result<Vec<LazyFile<R>>, AllocError>
     ensures { IfOk result (λ readers. readers.items ≡ map string_bytes places.now) }
 {
     let mut readers = Vec::with_capacity(alloc, places.len())?;
     'places: for place in places {
-        let listed = listed.get(readers.len());
-        readers.push(reader_of(rt, alloc, place, listed)?)?;
+        let index = readers.len();
+        readers.push(reader_at(rt, alloc, place, met.get(index), listed.get(index))?)?;
     }
     Ok(readers)
+}
+
+// A reader of the file at this place, which was met so, or of which this was told.
+fn reader_at<R: Files + Clone + Drop>(
+    rt: &R,
+    alloc: Global,
+    place: &str,
+    met: Option<&Met>,
+    listed: Option<ListedFile>,
+) -> Result<LazyFile<R>, AllocError>
+    ensures { IfOk result (λ reader. reader ≡ place.now) }
+{
+    match met {
+        Some(Met::Regular(listed)) => reader_of(rt, alloc, place, Some(*listed)),
+        Some(_) => no_reader_of(rt, alloc, place),
+        None => reader_of(rt, alloc, place, listed),
+    }
+}
+
+// A reader of a place where no file is to be read: each read is a fault.
+fn no_reader_of<R: Files + Clone + Drop>(
+    rt: &R,
+    alloc: Global,
+    place: &str,
+) -> Result<LazyFile<R>, AllocError>
+    ensures { IfOk result (λ reader. reader ≡ place.now) }
+{
+    let mut reader = reader_of(rt, alloc, place, None)?;
+    reader.state = State::Failed;
+    Ok(reader)
 }
 
 // A reader of the file at this place.

@@ -16,6 +16,7 @@
 //! - [`Source`] (`source.rt`): files by their numbers; what a steady source answers.
 //! - [`FolderSource`] (`folder.rt`): the files below a folder, or a file by itself, as the system has them. [`Survey`]:
 //!   those that can be taken, and each [`Refused`] one with its [`Refusal`] (`refused.rt`).
+//!   [`extra_paths`] (`extra.rt`): what of these is none of given files.
 //! - [`MemSource`] (`memory.rt`), [`FailSource`] (`failing.rt`), [`ShortSource`] (`short.rt`): files in memory, with
 //!   faults at chosen offsets, or read in small steps.
 //! - [`LazyFile`] (`lazy.rt`): a file of the system that is read once and in order.
@@ -27,12 +28,14 @@
 //! - [`laws`] (`laws.rt`): laws over the sources in memory, and the limits of an input.
 //!
 //! `walk.rt` finds the files below a folder, `named.rt` those of a list, both into `found.rt`; `listing.rt` reads the
-//! names in a folder, and `open_folders.rt` holds folders open meanwhile. `places.rt` joins places and names,
+//! names in a folder, and `open_folders.rt` holds folders open meanwhile. `unlinked.rt` has a source
+//! that follows no link, and tells how its files stand. `places.rt` joins places and names,
 //! `regular.rt` reads what stands at a place, `listed.rt` a file that has to be as it was listed, and `same_file.rt`
 //! tells whether two places have one file.
 #![tactic(auto)]
 
 mod buffer;
+mod extra;
 mod failing;
 mod faults;
 mod filling;
@@ -53,9 +56,11 @@ mod regular;
 mod same_file;
 mod short;
 mod source;
+mod unlinked;
 mod walk;
 
 pub use buffer::zeros;
+pub use extra::extra_paths;
 pub use failing::FailSource;
 pub use faults::{ScanFault, is_absence};
 pub use filling::{FillFault, fill};

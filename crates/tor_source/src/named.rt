@@ -17,9 +17,22 @@ use tor_tree::{FilePath, MAX_NAMES, Name};
 
 /// The folders that lead to the file that was looked for last, as far as they are known to be folders.
 #[derive(Drop)]
-struct Way<R: Files> {
+pub(crate) struct Way<R: Files> {
     names: Vec<Name>,
     open: OpenFolders<R>,
+}
+
+impl<R: Files> Way<R>
+where
+    R::File: AsRawFd,
+{
+    /// At the top folder, before any file is looked for.
+    pub(crate) fn at_top(rt: &R, alloc: Global, root: &str) -> Result<Way<R>, ScanFault> {
+        Ok(Way {
+            names: Vec::new(alloc),
+            open: OpenFolders::at_top(rt, alloc, root)?,
+        })
+    }
 }
 
 /// What a path leads to, if a file is looked for.
@@ -42,10 +55,7 @@ where
     ensures folder { IfOk result (λ found. string_bytes found.folder ≡ without_slash root.now) }
 {
     let mut found = none_found(alloc, root)?;
-    let mut way = Way {
-        names: Vec::new(alloc),
-        open: OpenFolders::at_top(rt, alloc, root)?,
-    };
+    let mut way = Way::at_top(rt, alloc, root)?;
     'files: for file in files {
         let sought = look_for(rt, alloc, &mut way, file.names())?;
         settle(alloc, sought, file, &mut found)?;
@@ -71,8 +81,8 @@ fn settle(
     }
 }
 
-// What these names lead to. A fault of the system refuses it, but for want of memory.
-fn look_for<R: Files>(
+/// What these names lead to. A fault of the system refuses it, but for want of memory.
+pub(crate) fn look_for<R: Files>(
     rt: &R,
     alloc: Global,
     way: &mut Way<R>,

@@ -3,7 +3,7 @@ ghost use Rattle.std.specs.Prelude.{◌≡◌, ◌++◌, IfOk};
 ghost use Rattle.std.specs.Fs.{IsDir, IsSymlink, file_type};
 ghost use Rattle.tor_source.specs.declared.refused.OtherKind.TheVariants.{Folder, Link};
 ghost use Rattle.tor_source.specs.Faults.{fault_of_refusal};
-ghost use Rattle.tor_source.specs.Places.{path_bytes};
+ghost use Rattle.tor_source.specs.Places.{names_bytes, path_bytes};
 
 use crate::faults::ScanFault;
 use std::alloc::{AllocError, Global};
@@ -96,4 +96,16 @@ pub(crate) fn path_bytes(alloc: Global, above: &[Name], name: &[u8]) -> Result<V
     }
     path.extend_from_slice(name)?;
     Ok(path)
+}
+
+/// The bytes of a path with these names, with a slash between two.
+pub(crate) fn names_bytes(alloc: Global, names: &[Name]) -> Result<Vec<u8>, AllocError>
+    ensures { IfOk result (λ path. path.items ≡ names_bytes names.now) }
+{
+    let (above, last) = names.split_at(names.len().saturating_sub(1));
+    let name: &[u8] = match last.first() {
+        Some(name) => name.as_bytes(),
+        None => b"",
+    };
+    path_bytes(alloc, above, name)
 }

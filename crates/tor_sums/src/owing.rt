@@ -56,6 +56,24 @@ impl OwingSums {
         Ok(())
     }
 
+    /// Hashes what waits, and gives all sums that are owed, one after another. Then none is owed, and the next units
+    /// are read into the same room.
+    pub fn settle(&mut self, alloc: Global, plan: &Plan) -> Result<Vec<u8>, AllocError>
+        requires planned { IsPlan plan.now }
+        requires owing { (owed : List ℕ) × Owes plan.now owed self.old }
+        ensures sums { (owed : List ℕ) → Owes plan.now owed self.old → IfOk result (λ sums. sums.items ≡ owed) }
+        ensures next { OnOk result (Owes plan.now [] self.new) }
+    {
+        // No byte of a unit waits for a tree: this one is of none.
+        self.sums.end_tree(alloc, plan)?;
+        let last = self.sums.end_pieces(alloc, plan)?;
+        let mut all = Vec::with_capacity(alloc, self.ended.len())?;
+        all.extend_from_slice(&self.ended)?;
+        all.extend_from_slice(&last)?;
+        self.ended.clear();
+        Ok(all)
+    }
+
     /// Hashes what waits, and gives all sums that are owed, one after another. It takes no memory.
     pub fn finish(self, alloc: Global) -> Vec<u8>
         requires { (plan : PlanFacts) × (owed : List ℕ) × Owes plan owed self }

@@ -2,10 +2,14 @@
 use Rattle.std.specs.Prelude.{ℕ, List, Option}
 use Rattle.tor_engine.specs.PieceHashes.{piece_hashes}
 use Rattle.tor_engine.specs.declared.piece_hash.PieceHash.{PieceHash}
-use Rattle.tor_plan.specs.PlanFacts.{plan_of_entries}
+use Rattle.tor_plan.specs.PlanFacts.{PlanFacts, plan_of_entries}
 use Rattle.tor_recheck.specs.Pieces.{entries_to_cut}
 use Rattle.tor_recheck.specs.declared.rechecking.TheConstants.{SPAN}
 use Rattle.tor_spec.specs.valid.View.{View}
+
+-- the units that a recheck takes
+abbrev pub cut_plan : View → PlanFacts
+cut_plan view = plan_of_entries view.kind view.piece_length SPAN (entries_to_cut view)
 
 -- what the pieces of a torrent hash to, where its files have these contents
 abbrev pub hashes_in : View → List (List ℕ) → List (Option PieceHash)

@@ -3,6 +3,7 @@ use crate::shared::path;
 use crate::source::memory::read;
 use crate::source::readers::{are_opened_once, gives_each};
 use crate::source::surveys::{finds_named, gives_what_was_listed, tells_all};
+use crate::source::unlinked::{follows_no_link, tells_extra};
 use std::alloc::{AllocError, Global};
 use std::rt::Files;
 use std::{env, fs, io, process};
@@ -40,6 +41,10 @@ enum Case {
     Named,
     /// Files that change after they were listed.
     Listed,
+    /// Files, and links to them, of which none is followed.
+    Unlinked,
+    /// Files and links beside those that are known.
+    Extra,
 }
 
 fn holds_in(rt: &HostRuntime, folder: &str, case: Case) -> io::Result<bool> {
@@ -51,6 +56,8 @@ fn holds_in(rt: &HostRuntime, folder: &str, case: Case) -> io::Result<bool> {
         Case::Surveyed => tells_all(rt, folder),
         Case::Named => finds_named(rt, folder),
         Case::Listed => gives_what_was_listed(rt, folder),
+        Case::Unlinked => follows_no_link(rt, folder),
+        Case::Extra => tells_extra(rt, folder),
     }
 }
 
@@ -221,6 +228,8 @@ const CASES: &[(&str, Case)] = &[
     ("surveyed", Case::Surveyed),
     ("named", Case::Named),
     ("listed", Case::Listed),
+    ("unlinked", Case::Unlinked),
+    ("extra", Case::Extra),
 ];
 
 #[test]

@@ -7,13 +7,13 @@ use std::io::{self, ErrorKind, Read};
 use std::rt::Files;
 use tor_source::{FolderSource, LazyFile, OtherKind, Refusal, Refused, Source, Survey};
 
-fn write(rt: &HostRuntime, folder: &str, name: &str, text: &str) -> io::Result<()> {
+pub(crate) fn write(rt: &HostRuntime, folder: &str, name: &str, text: &str) -> io::Result<()> {
     fs::write(rt, below(rt.alloc(), folder, name)?.as_str(), text)
 }
 
 // Makes a file `a` of six bytes, an empty file `b`, a folder `d` with a file `c` of three bytes, and links `l` to the
 // file and `m` to the folder.
-fn add_all(rt: &HostRuntime, folder: &str) -> io::Result<()> {
+pub(crate) fn add_all(rt: &HostRuntime, folder: &str) -> io::Result<()> {
     let alloc = rt.alloc();
     let (file, inside) = (below(alloc, folder, "a")?, below(alloc, folder, "d")?);
     write(rt, folder, "a", "abcdef")?;
@@ -107,7 +107,7 @@ pub(crate) fn finds_named(rt: &HostRuntime, folder: &str) -> io::Result<bool> {
 }
 
 // Whether a read of the file gives these bytes.
-fn is_read(source: &FolderSource<HostRuntime>, file: u64, wanted: &[u8]) -> bool {
+pub(crate) fn is_read(source: &FolderSource<HostRuntime>, file: u64, wanted: &[u8]) -> bool {
     let mut buffer = [0; 9];
     match source.read_at(file, 0, &mut buffer) {
         Ok(count) => buffer.get(..count) == Some(wanted),
@@ -115,7 +115,7 @@ fn is_read(source: &FolderSource<HostRuntime>, file: u64, wanted: &[u8]) -> bool
     }
 }
 
-fn is_told(source: &FolderSource<HostRuntime>, file: u64, wanted: Option<u64>) -> bool {
+pub(crate) fn is_told(source: &FolderSource<HostRuntime>, file: u64, wanted: Option<u64>) -> bool {
     matches!(source.length(file), Ok(length) if length == wanted)
 }
 

@@ -1,7 +1,6 @@
 -- a piece that is not there, one of padding, and one that is read
-use Rattle.std.proofs.Common.{ℕ, List, Option, [], ◌++◌, length, ap, append-nil, cond, is_some, refl, subst, sym, true}
+use Rattle.std.proofs.Common.{ℕ, List, Option, [], length, ap, append-nil, cond, refl, subst, sym}
 use Rattle.std.proofs.Common.{◌∙◌, None, Some, inl, inr}
-use Rattle.tor_plan.specs.Present.{is_there}
 use Rattle.tor_sums.specs.Contents.{contents_in}
 use Rattle.tor_sums.specs.Fault.{unit_fault}
 use Rattle.tor_tree.specs.Kinds.{has_v1}
@@ -121,3 +120,8 @@ returns-in-Err-clause-gave g c =
     c.in-Err.ensures.gave (lengths_of_sizes sizes)
     (unit_in_told sizes c.args.plan.now.lengths piece c.requires.piece.unit.parts
     (ap (λ xs. is_within xs piece) (sym c.deref.ensures.value) ∙ sym c.is_there.ensures ∙ c.if-not-is_there.false))
+
+pub returns-in-Err-clause-there : goal.returns-in-Err-clause-there
+returns-in-Err-clause-there g c =
+    ap (λ xs. is_within xs c.args.piece.now) (sym c.deref.ensures.value) ∙ sym c.is_there.ensures
+    ∙ c.if-not-is_there.false

@@ -1,53 +1,43 @@
 -- the pieces, and the lengths again
 use Rattle.std.proofs.Common.{List, length, map, is_some, inl, inr, ap, subst, sym, ◌∙◌}
-use Rattle.std.specs.List.{All, flat_map}
-use Rattle.tor_plan.specs.Pieces.{pieces_of_unit}
+use Rattle.std.specs.List.{flat_map}
 use Rattle.tor_plan.specs.Forest.{AreRuns}
 use Rattle.tor_plan.specs.declared.forests.Run.{Run}
-use Rattle.tor_plan.specs.declared.units.PlanUnit.{PlanUnit}
 use Rattle.tor_sums.specs.Contents.{contents_in}
-use Rattle.tor_engine.specs.There.{is_within}
 use Rattle.tor_engine.specs.steps.Asked.{first_again_fault}
-use Rattle.tor_engine.specs.steps.Pieces.{IsUnitToHash, first_unit_fault, hashes_in, unit_hashes}
-use Rattle.tor_engine.proofs.AllPieces.{all_hashes, are_told, fault_after, hashes_counted, hashes_joined, hashes_there}
+use Rattle.tor_engine.specs.steps.Pieces.{hashes_in}
+use Rattle.tor_engine.proofs.AllPieces.{are_told, fault_of_units, hashes_counted, hashes_flat, hashes_joined}
+use Rattle.tor_engine.proofs.AllPieces.{hashes_there}
 use Rattle.tor_engine.proofs.AskedLengths.{again_same, same_again}
-use Rattle.tor_engine.proofs.PlanPieces.{units_to_hash}
 use Rattle.tor_engine.proofs.RunRoots.{no_runs}
 use Rattle.tor_engine.proofs.pieces.hash_known.Goals as goal
 
-pub hash_units-requires-clause-units : goal.hash_units-requires-clause-units
-hash_units-requires-clause-units g c = λ κs lives.
-    subst (λ (units : List PlanUnit). All (IsUnitToHash c.args.plan.now) units) (sym c.units-units.ensures.value)
-    (units_to_hash c.args.plan.now c.units-units.ensures.planned)
-
 pub hash_units-requires-clause-runs : goal.hash_units-requires-clause-runs
 hash_units-requires-clause-runs g c = λ κs lives.
-    subst (λ (runs : List Run). AreRuns (length c.units-units.result.now) 0 runs) (sym c.new.ensures.items)
-    (no_runs (length c.units-units.result.now))
+    subst (λ (runs : List Run). AreRuns (length c.args.units.now) 0 runs) (sym c.new.ensures.items)
+    (no_runs (length c.args.units.now))
 
 pub returns-in-Err-clause-hashed : goal.returns-in-Err-clause-hashed
 returns-in-Err-clause-hashed g c = λ facts steady told none.
     let plan = c.args.plan.now in
-    let contents = contents_in facts (length plan.lengths) in
     elim (c.in-Err.ensures.fault facts
     (steady, are_told facts c.args.known.now.lengths.items (length plan.lengths) told)) [
       | inl memory ↦ inl memory
-      | inr fault ↦ inr (sym (ap (first_unit_fault facts plan contents) c.units-units.ensures.value
-          ∙ fault_after facts plan none) ∙ fault)
+      | inr fault ↦ inr (sym (fault_of_units facts plan c.args.units.now none) ∙ fault)
     ]
 
 pub returns-clause-hashed : goal.returns-clause-hashed
 returns-clause-hashed g c = λ facts steady told none.
     let plan = c.args.plan.now in
+    let units = c.args.units.now in
     let contents = contents_in facts (length plan.lengths) in
     let sizes = c.args.known.now.lengths.items in
     let known = are_told facts sizes (length plan.lengths) told in (
       c.in_ok-joined.ensures ∙ ap (flat_map (λ one. map hashes_in one.pieces.items)) c.deref-2.ensures.value
           ∙ hashes_joined (g.S.Source.is_steady c.args.source.now) plan sizes facts steady known _ _
           c.in-Ok.ensures.summed
-          ∙ ap (flat_map (unit_hashes plan contents)) c.units-units.ensures.value ∙ all_hashes plan contents,
-      sym (ap (first_unit_fault facts plan contents) c.units-units.ensures.value ∙ fault_after facts plan none)
-          ∙ c.in-Ok.ensures.fault facts (steady, known),
+          ∙ hashes_flat plan contents units,
+      sym (fault_of_units facts plan units none) ∙ c.in-Ok.ensures.fault facts (steady, known),
     )
 
 pub returns-clause-there : goal.returns-clause-there
@@ -56,8 +46,6 @@ returns-clause-there g c =
     let sizes = c.args.known.now.lengths.items in
     ap (map is_some) (c.in_ok-joined.ensures ∙ ap (flat_map (λ one. map hashes_in one.pieces.items)) c.deref-2.ensures.value)
     ∙ hashes_there (g.S.Source.is_steady c.args.source.now) plan sizes _ _ c.in-Ok.ensures.summed
-    ∙ ap (λ units. map (is_within sizes) (flat_map (pieces_of_unit plan.piece_length) units))
-    c.units-units.ensures.value
 
 pub returns-clause-counted : goal.returns-clause-counted
 returns-clause-counted g c =
@@ -66,7 +54,6 @@ returns-clause-counted g c =
     ∙ hashes_counted c.args.known.now.lengths.items _ _
     (hashes_there (g.S.Source.is_steady c.args.source.now) plan c.args.known.now.lengths.items _ _
     c.in-Ok.ensures.summed)
-    ∙ ap (λ units. length (flat_map (pieces_of_unit plan.piece_length) units)) c.units-units.ensures.value
 
 pub returns-clause-unchanged : goal.returns-clause-unchanged
 returns-clause-unchanged g c = λ facts steady.

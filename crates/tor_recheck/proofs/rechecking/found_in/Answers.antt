@@ -1,4 +1,5 @@
 -- the plan, what its pieces hash to, and the lengths of its files
+use Rattle.tor_recheck.proofs.Names.{arith, ones, refl}
 use Rattle.tor_recheck.proofs.Names.{[], ℕ, length, ap, subst, sym, ◌∙◌, contents_in, IsGivenPieces, first_piece_fault}
 use Rattle.tor_recheck.proofs.Names.{piece_hashes, pieces_of_plan, PlanFacts, plan_of_entries, entries_to_cut, IsFault}
 use Rattle.tor_recheck.proofs.Names.{◌≡◌, IsCut, IsGiven, View, first_fault, is_within, lengths_told, map}
@@ -7,6 +8,11 @@ use Rattle.tor_recheck.proofs.RecheckFaults.{given_of, no_fault, same_fault}
 use Rattle.tor_recheck.proofs.Rechecked.{count_is, pieces_are}
 use Rattle.tor_sums.specs.Fault as engine
 use Rattle.tor_recheck.proofs.rechecking.found_in.Goals as goal
+
+-- sixteen pieces are a span
+pub plan_of-requires : goal.plan_of-requires
+unfolding ones
+plan_of-requires g c = (refl, omega arith, omega arith)
 
 -- the plan has the files of the torrent
 count_of_plan : {plan : PlanFacts} (view : View) (cut : IsCut view)

@@ -6,6 +6,7 @@ use Rattle.tor_recheck.proofs.rechecking.plan_of.Goals as goal
 pub cut_entries-requires : goal.cut_entries-requires
 cut_entries-requires c = record {
   cut = cut_of c.args.torrent.now c.files-files.ensures.valid;
+  span = c.requires;
   entries = c.entries.ensures
       ∙ sym (cond-true _ _ _ (sym (c.has_v1.ensures ∙ ap has_v1 c.kind.ensures) ∙ c.if-has_v1.true));
 }
@@ -13,6 +14,7 @@ cut_entries-requires c = record {
 pub cut_entries-requires-2 : goal.cut_entries-requires-2
 cut_entries-requires-2 c = record {
   cut = cut_of c.args.torrent.now c.files-files.ensures.valid;
+  span = c.requires;
   entries = c.deref.ensures.value ∙ c.in_ok-entries.ensures
       ∙ ap (map (λ told. file_entry (told.file.path, told.file.length))) c.files-files.ensures.value
       ∙ sym (cond-false _ _ _ (sym (c.has_v1.ensures ∙ ap has_v1 c.kind.ensures) ∙ c.if-has_v1.false));

@@ -7,7 +7,7 @@ use Rattle.tor_recheck.proofs.HeldPieces.{judged_is_held}
 use Rattle.tor_recheck.proofs.FoundLengths.{lengths_kept}
 use Rattle.tor_recheck.proofs.Rechecked.{count_of_judged, judged_is_verified}
 use Rattle.tor_recheck.proofs.SpanSteps.{spans_are_counted}
-use Rattle.tor_recheck.proofs.Within.{held_within, judged_within, right_are_held}
+use Rattle.tor_recheck.proofs.Within.{held_within, judged_within, right_are_held, some_within}
 use Rattle.tor_recheck.proofs.rechecking_files.recheck_files.Goals as goal
 
 pub returns-clause-found : goal.returns-clause-found
@@ -62,8 +62,8 @@ returns-clause-there g c =
       by_bits = λ none. cond-false (has_v2 view.kind) (all_merkle_judged view hashes) (all_judged view hashes) none
           ∙ sym right;
       held_within = subst (λ (sizes : List (Option ℕ)). AreWithin view sizes held) (sym told)
-          (held_within view lengths hashes c.in-Ok.ensures.there);
+          (held_within view lengths hashes (some_within view lengths hashes c.in-Ok.ensures.there));
       right_within = subst (λ (sizes : List (Option ℕ)). AreWithin view sizes c.in_ok-bits.bits) (sym told)
           (subst (λ (bits : List Bool). AreWithin view lengths bits)
-          (sym right) (judged_within view lengths hashes c.in-Ok.ensures.there));
+          (sym right) (judged_within view lengths hashes (some_within view lengths hashes c.in-Ok.ensures.there)));
     }

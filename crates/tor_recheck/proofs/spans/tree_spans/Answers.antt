@@ -24,7 +24,7 @@ files-preserved c =
     let here = c.files-test.true in
     let count = c.div_ceil.ensures ∙ ap (λ (file : TreeFile). div_ceil file.length p) c.file.ensures in
     let pushed = c.in_ok-push.ensures.items
-    ∙ ap₂ (λ m n. spans ++ record { length = m; first = first; after = first + n } ∷ [])
+    ∙ ap₂ (λ m n. spans ++ record { length = m; first = first; after = first + n; lead = 0 } ∷ [])
     (ap (λ (file : TreeFile). file.length) c.file.ensures) count in
     record {
       spans = subst (λ (n : ℕ). c.push.new.self.items ++ tree_spans p (first + n) (drop (i + 1) files)

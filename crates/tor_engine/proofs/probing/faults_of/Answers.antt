@@ -1,0 +1,31 @@
+-- one part, and several
+use Rattle.std.proofs.Common.{List, ap, arith, length, subst, sym, ◌∙◌}
+use Rattle.tor_plan.specs.WithinEntries.{IsInFile}
+use Rattle.tor_plan.specs.declared.units.Part.{Part}
+use Rattle.std.specs.List.{All}
+use Rattle.std.proofs.lemmas.Bool.{eqb-true}
+use Rattle.tor_sums.specs.Fault.{first_of, part_fault}
+use Rattle.tor_sums.specs.steps.Reads.{HasParts}
+use Rattle.tor_engine.proofs.FoundReadable.{none_held, none_listed, one_part}
+use Rattle.tor_engine.proofs.probing.faults_of.Goals as goal
+
+pub returns-then-parts-le1-clause-failed : goal.returns-then-parts-le1-clause-failed
+returns-then-parts-le1-clause-failed g c = λ facts steady have is.
+    c.in_ok-one.ensures
+    ∙ one_part facts c.args.piece.now.parts c.args.first
+    (let few = c.if-parts-le1.true in let same = ap length c.as_slice-parts.ensures in omega (arith, few, same)) is
+
+pub returns-then-is_empty-clause-failed : goal.returns-then-is_empty-clause-failed
+returns-then-is_empty-clause-failed g c = λ facts steady have is.
+    let same = c.as_slice-parts.ensures in
+    let all = c.in-Ok.ensures.failed facts steady
+    (subst (λ (ps : List Part). HasParts facts ps) (sym same) have) in
+    let none = none_listed facts c.as_slice-parts.result.now (sym all ∙ none_held c.in-Ok.faults.items
+    (sym c.in-Ok.faults.ok.0 ∙ eqb-true _ 0 (sym c.if-is_empty.ensures))) in
+    let never = sym none ∙ ap (first_of (part_fault facts)) same ∙ is in
+    cc
+
+pub returns-clause-given : goal.returns-clause-given
+returns-clause-given g c = λ lengths are first.
+    c.in-Ok.ensures.given lengths
+    (subst (λ (ps : List Part). All (IsInFile lengths) ps) (sym c.as_slice-parts.ensures) are)

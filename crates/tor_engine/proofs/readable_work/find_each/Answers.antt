@@ -1,0 +1,53 @@
+-- one piece after the other
+use Rattle.std.proofs.Common.{◌++◌, [], ◌∷◌, ap, map, refl, sym, take, ◌∙◌}
+use Rattle.std.proofs.lemmas.List.{map-append, take_all, take_more}
+use Rattle.tor_plan.specs.Pieces.{pieces_of_unit}
+use Rattle.tor_sums.specs.steps.Given.{IsGivenRead, lengths_of_sizes}
+use Rattle.tor_engine.specs.steps.Pieces.{hashes_in}
+use Rattle.tor_engine.proofs.FoundReadable.{finds_as, finds_both, finds_none}
+use Rattle.tor_engine.proofs.readable_work.find_each.Goals as goal
+
+pub pieces-init : goal.pieces-init
+pieces-init g c =
+    let is_steady = g.S.FileBytes.is_steady c.args.source.now in
+    let told = c.args.known.now.lengths.items in
+    let may_be = IsGivenRead (g.S.FileBytes.answers c.args.source.now) (lengths_of_sizes told) in
+    record {
+      owing = c.requires.owing;
+      found = finds_as is_steady may_be c.args.plan.now told refl
+          (sym (ap (map hashes_in) c.in_ok-found.ensures.items)) (sym c.new-faults.ensures.items)
+          (finds_none is_steady may_be c.args.plan.now told);
+    }
+
+pub pieces-preserved : goal.pieces-preserved
+pieces-preserved g c =
+    let is_steady = g.S.FileBytes.is_steady c.args.source.now in
+    let told = c.args.known.now.lengths.items in
+    let may_be = IsGivenRead (g.S.FileBytes.answers c.args.source.now) (lengths_of_sizes told) in
+    let plan = c.args.plan.now in
+    let pieces = c.as_slice-piece-items.result.now in
+    let i = c.pieces.piece-index in
+    let piece = c.piece-item.result in
+    let one = c.in-Ok.one in
+    record {
+      owing = c.in-Ok.ensures.owing;
+      found = finds_as is_steady may_be plan told
+          (ap (λ p. take i pieces ++ p ∷ []) c.piece-item.is ∙ sym (take_more pieces i _ c.pieces-test.true))
+          (sym (ap (map hashes_in) c.in_ok-push.ensures.items
+          ∙ map-append hashes_in c.pieces.found.items (one.0 ∷ [])))
+          (sym c.in_ok-append.ensures.joined)
+          (finds_both is_steady may_be plan told (take i pieces) (piece ∷ []) (map hashes_in c.pieces.found.items)
+          (hashes_in one.0 ∷ []) c.pieces.faults.items one.1.items c.pieces.invariant.found c.in-Ok.ensures.found);
+    }
+
+pub returns-clause-found : goal.returns-clause-found
+returns-clause-found g c =
+    let is_steady = g.S.FileBytes.is_steady c.args.source.now in
+    let told = c.args.known.now.lengths.items in
+    let may_be = IsGivenRead (g.S.FileBytes.answers c.args.source.now) (lengths_of_sizes told) in
+    let items = c.as_slice-piece-items.result.now in
+    finds_as is_steady may_be c.args.plan.now told
+    (take_all c.pieces.piece-index items c.pieces-test.false
+    ∙ c.as_slice-piece-items.ensures.value ∙ c.in_ok-pieces.ensures
+    ∙ ap (λ p. pieces_of_unit p c.args.unit.now) c.piece_length.ensures)
+    refl refl c.pieces.invariant.found

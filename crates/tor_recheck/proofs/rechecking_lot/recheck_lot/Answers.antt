@@ -1,0 +1,125 @@
+-- those of the lot
+use Rattle.tor_recheck.proofs.Names.{◌∙◌, ◌++◌, ◌+◌, ◌-◌, ℕ, Bool, List, None, Option, ap, ap₂, arith, drop, length, map}
+use Rattle.tor_recheck.proofs.Names.{has_bytes_of, list_any, ones, range_with_len, refl, replicate, subst, sym, take}
+use Rattle.tor_recheck.proofs.Names.{all_judged, IsFault, PieceHash, PlanUnit, option_map, of_engine_error}
+use Rattle.tor_recheck.proofs.Names.{[], IsGiven, IsGivenPieces, PlanFacts}
+use Rattle.tor_recheck.proofs.LotGiven.{given_own}
+use Rattle.tor_recheck.proofs.RecheckFaults.{given_of}
+use Rattle.tor_recheck.proofs.Rechecked.{count_is}
+use Rattle.tor_recheck.proofs.LotAnswers.{bits_found, counted, fault_is, hashes_counted, judged_counted, same_fault}
+use Rattle.tor_recheck.specs.Lots.{first_lot_fault, first_of_lot}
+use Rattle.tor_recheck.specs.steps.Lots.{own_answers, own_facts}
+use Rattle.tor_recheck.proofs.rechecking_lot.recheck_lot.Goals as goal
+
+-- a piece alone is a span
+pub plan_of-requires : goal.plan_of-requires
+unfolding ones
+plan_of-requires g c = (refl, omega arith, omega arith)
+
+pub bits_between-requires-clause-within : goal.bits_between-requires-clause-within
+bits_between-requires-clause-within g c =
+    let view = c.args.torrent.now in
+    let lots = c.args.lots in
+    let plan = c.in_ok-plan.plan in
+    let cut = c.in_ok-plan.ensures.cut in
+    let planned = c.in_ok-plan.ensures.planned in
+    let from = c.first_of_lot-from.result in
+    let to = c.first_of_lot-to.result in
+    let units = ap length c.units-units.ensures.value in
+    let begins = c.first_of_lot-from.ensures.result ∙ ap₂ (λ n l. first_of_lot n lots l) units c.from.ensures in
+    let ends = c.first_of_lot-to.ensures.result ∙ ap₂ (λ n l. first_of_lot n lots (l + 1)) units c.from-2.ensures in
+    let hashes = c.in-Ok.found.hashes.items in
+    let full_is = c.in_ok-hashes.ensures
+    ∙ ap (λ (some : List (Option PieceHash)). replicate from None ++ some) c.deref-2.ensures.value in
+    let bits_are = c.in_ok-bits.ensures ∙ ap (all_judged view) c.deref-3.ensures.value in
+    let count = ap length bits_are
+    ∙ judged_counted view cut plan planned lots c.args.lot from to begins ends c.in_ok-hashes.hashes.items hashes full_is
+    (hashes_counted view cut plan planned lots c.args.lot from to begins ends c.in-Ok.found.lengths.items hashes
+    c.in-Ok.ensures.there) in
+    omega (arith, count)
+
+pub returns-in-Err-clause-found : goal.returns-in-Err-clause-found
+returns-in-Err-clause-found g c = λ how facts steady.
+    let view = c.args.torrent.now in
+    let lots = c.args.lots in
+    let plan = c.in_ok-plan.plan in
+    let cut = c.in_ok-plan.ensures.cut in
+    let planned = c.in_ok-plan.ensures.planned in
+    let from = c.first_of_lot-from.result in
+    let to = c.first_of_lot-to.result in
+    let units = ap length c.units-units.ensures.value in
+    let begins = c.first_of_lot-from.ensures.result ∙ ap₂ (λ n l. first_of_lot n lots l) units c.from.ensures in
+    let ends = c.first_of_lot-to.ensures.result ∙ ap₂ (λ n l. first_of_lot n lots (l + 1)) units c.from-2.ensures in
+    let own = c.deref.result.now in
+    let own_is = c.deref.ensures.value ∙ c.in_ok-own.ensures
+    ∙ ap₂ (λ (units : List PlanUnit) n. map (λ file. list_any (has_bytes_of file) units) (range_with_len 0 n))
+    (c.between.ensures ∙ ap (λ (units : List PlanUnit). take (to - from) (drop from units)) c.units-units.ensures.value)
+    (ap length c.lengths.ensures) in
+    let fault = c.in-Err.ensures.hashed (own_facts own facts) (facts, steady, refl) in
+    subst (λ error. IsFault (first_lot_fault facts view lots c.args.lot) error) (sym c.into.ensures)
+    (same_fault view cut plan planned lots c.args.lot from to begins ends facts own own_is c.in-Err.error fault)
+
+pub returns-clause-found : goal.returns-clause-found
+returns-clause-found g c = λ how facts steady.
+    let view = c.args.torrent.now in
+    let lots = c.args.lots in
+    let plan = c.in_ok-plan.plan in
+    let cut = c.in_ok-plan.ensures.cut in
+    let planned = c.in_ok-plan.ensures.planned in
+    let from = c.first_of_lot-from.result in
+    let to = c.first_of_lot-to.result in
+    let units = ap length c.units-units.ensures.value in
+    let begins = c.first_of_lot-from.ensures.result ∙ ap₂ (λ n l. first_of_lot n lots l) units c.from.ensures in
+    let ends = c.first_of_lot-to.ensures.result ∙ ap₂ (λ n l. first_of_lot n lots (l + 1)) units c.from-2.ensures in
+    let own = c.deref.result.now in
+    let own_is = c.deref.ensures.value ∙ c.in_ok-own.ensures
+    ∙ ap₂ (λ (units : List PlanUnit) n. map (λ file. list_any (has_bytes_of file) units) (range_with_len 0 n))
+    (c.between.ensures ∙ ap (λ (units : List PlanUnit). take (to - from) (drop from units)) c.units-units.ensures.value)
+    (ap length c.lengths.ensures) in
+    let hashes = c.in-Ok.found.hashes.items in
+    let full_is = c.in_ok-hashes.ensures
+    ∙ ap (λ (some : List (Option PieceHash)). replicate from None ++ some) c.deref-2.ensures.value in
+    let bits_are = c.in_ok-bits.ensures ∙ ap (all_judged view) c.deref-3.ensures.value in
+    let found = c.in-Ok.ensures.hashed (own_facts own facts) (facts, steady, refl) in (
+      c.in_ok-bits_between.ensures
+          ∙ ap (λ (bits : List Bool). take (to - from) (drop from bits)) bits_are
+          ∙ bits_found view cut plan planned lots c.args.lot from to begins ends facts own own_is
+          c.in_ok-hashes.hashes.items hashes full_is found.0,
+      sym (fault_is view cut plan planned lots c.args.lot from to begins ends facts own own_is)
+          ∙ ap (option_map of_engine_error) found.2,
+    )
+
+pub returns-clause-counted : goal.returns-clause-counted
+returns-clause-counted g c =
+    let view = c.args.torrent.now in
+    let lots = c.args.lots in
+    let plan = c.in_ok-plan.plan in
+    let cut = c.in_ok-plan.ensures.cut in
+    let planned = c.in_ok-plan.ensures.planned in
+    let from = c.first_of_lot-from.result in
+    let to = c.first_of_lot-to.result in
+    let units = ap length c.units-units.ensures.value in
+    let begins = c.first_of_lot-from.ensures.result ∙ ap₂ (λ n l. first_of_lot n lots l) units c.from.ensures in
+    let ends = c.first_of_lot-to.ensures.result ∙ ap₂ (λ n l. first_of_lot n lots (l + 1)) units c.from-2.ensures in
+    let hashes = c.in-Ok.found.hashes.items in
+    let full_is = c.in_ok-hashes.ensures
+    ∙ ap (λ (some : List (Option PieceHash)). replicate from None ++ some) c.deref-2.ensures.value in
+    let bits_are = c.in_ok-bits.ensures ∙ ap (all_judged view) c.deref-3.ensures.value in
+    let count = ap length bits_are
+    ∙ judged_counted view cut plan planned lots c.args.lot from to begins ends c.in_ok-hashes.hashes.items hashes full_is
+    (hashes_counted view cut plan planned lots c.args.lot from to begins ends c.in-Ok.found.lengths.items hashes
+    c.in-Ok.ensures.there) in
+    ap length c.in_ok-bits_between.ensures
+    ∙ counted view cut plan planned lots c.args.lot from to begins ends c.in_ok-bits.bits count
+
+pub returns-in-Err-clause-gave : goal.returns-in-Err-clause-gave
+returns-in-Err-clause-gave g c =
+    let view = c.args.torrent.now in
+    let answers = g.S.Source.answers c.args.source.now in
+    let files = ap (λ (p : PlanFacts). length p.lengths) c.in_ok-plan.ensures.planned
+    ∙ count_is view [] c.in_ok-plan.ensures.cut in
+    subst (λ error. IsGiven answers (length view.files) error) (sym c.into.ensures)
+    (given_of answers (length view.files) c.in-Err.error
+    (given_own c.deref.result.now answers (length view.files) c.in-Err.error
+    (subst (λ (n : ℕ). IsGivenPieces (own_answers c.deref.result.now answers) n c.in-Err.error) files
+    c.in-Err.ensures.gave)))

@@ -1,0 +1,142 @@
+//! A torrent's pieces looked for by many machines: each looks for those of its own lot.
+ghost use Rattle.std.specs.Prelude.{◌≡◌, ◌≢◌, ◌+◌, ◌-◌, ◌<◌, ◌≤◌, ◌^◌, ◌++◌, Err, IfErr, IfOk, MatchResult, None, drop, length};
+ghost use Rattle.std.specs.Prelude.{replicate, take};
+ghost use Rattle.tor_recheck.specs.Lots.{first_lot_fault, first_of_lot, in_lot, lot_byte};
+ghost use Rattle.tor_recheck.specs.Recheck.{IsFault, IsGiven};
+ghost use Rattle.tor_recheck.specs.declared.errors.RecheckError.TheVariants.{Workers};
+ghost use Rattle.tor_source.specs.Source.{SourceFacts};
+ghost use Rattle.tor_spec.specs.Verified.{verified_pieces};
+ghost use Rattle.tor_sums.specs.Contents.{contents_in};
+ghost use Rattle.tor_sums.specs.How.{IsHow};
+
+use crate::bits::Bits;
+use crate::errors::RecheckError;
+use crate::judge::verified_bits;
+use crate::own_files::{OwnFiles, own_files};
+use crate::rechecking::plan_of;
+use std::alloc::{AllocError, Global};
+use std::thread::Threads;
+use tor_check::Torrent;
+use tor_engine::{How, PieceHash, find_pieces_between};
+use tor_plan::PlanUnit;
+use tor_source::Source;
+
+/// Which of the pieces of one of so many lots are there and right, as [`recheck`](crate::recheck) tells of all. The
+/// bytes of the bitfield are dealt, the first lots perhaps one more than the others, and a lot has the pieces of its
+/// bytes: so the bitfields of all lots, one after another, are that of the torrent. Lots are counted from 0; one may
+/// have no piece. Those files alone are asked and read that have bytes in these pieces.
+pub fn recheck_lot<S: Source, R: Threads + Sync>(
+    rt: &R,
+    alloc: Global,
+    source: &S,
+    torrent: &Torrent,
+    lots: u32,
+    lot: u32,
+    how: How,
+) -> Result<Bits, RecheckError<S::Fault>>
+    requires { lot < lots }
+    ensures workers { (IsHow how → ⊥) → result ≡ Err Workers }
+    ensures found { IsHow how → (facts : SourceFacts S.Fault) → S.is_steady source.now facts →
+        MatchResult result
+        (λ bits. (bits
+        ≡ in_lot lots lot (verified_pieces torrent.now (contents_in facts (length torrent.now.files))))
+        × (first_lot_fault facts torrent.now lots lot ≡ None))
+        (IsFault (first_lot_fault facts torrent.now lots lot)) }
+    ensures counted { IfOk result (λ bits. length bits
+        ≡ first_of_lot torrent.now.piece_count lots (lot + 1) - first_of_lot torrent.now.piece_count lots lot) }
+    ensures allowed { IsHow how → IfErr result (λ error. error ≢ Workers) }
+    ensures gave { IfErr result (IsGiven (S.answers source.now) (length torrent.now.files)) }
+{
+    if !how.is_allowed() {
+        return Err(RecheckError::Workers);
+    }
+    let plan = plan_of(alloc, torrent, 1)?;
+    let units = plan.units();
+    let from = first_of_lot(units.len(), lots, u64::from(lot));
+    let to = first_of_lot(units.len(), lots, u64::from(lot) + 1);
+    let own = own_files(alloc, plan.lengths().len(), between(units, from, to))?;
+    let some = OwnFiles { source, own: &own };
+    let found = match find_pieces_between(rt, alloc, &some, &plan, from, to, how) {
+        Ok(found) => found,
+        Err(error) => return Err(error.into()),
+    };
+    let hashes = hashes_after(alloc, from, &found.hashes)?;
+    let bits = verified_bits(alloc, torrent, &hashes)?;
+    Ok(bits_between(alloc, &bits, from, to)?)
+}
+
+/// The first piece of a lot, and the first after it. Lots are counted from 0; one may have no piece.
+pub fn pieces_of_lot(torrent: &Torrent, lots: u32, lot: u32) -> (u64, u64)
+    requires { lot < lots }
+    ensures first { result.0 ≡ first_of_lot torrent.now.piece_count lots lot }
+    ensures after { result.1 ≡ first_of_lot torrent.now.piece_count lots (lot + 1) }
+{
+    let count = torrent.piece_count() as usize;
+    let first = first_of_lot(count, lots, u64::from(lot));
+    let after = first_of_lot(count, lots, u64::from(lot) + 1);
+    (first as u64, after as u64)
+}
+
+/// The first of so many pieces that a lot has; past the last lot, how many there are.
+fn first_of_lot(count: usize, lots: u32, lot: u64) -> usize
+    requires some { 0 < lots }
+    requires within { lot ≤ lots }
+    ensures result { result ≡ first_of_lot count lots lot }
+    ensures bound { result ≤ count }
+{
+    let byte = lot_byte(count.div_ceil(8) as u128, u128::from(lots), u128::from(lot));
+    let first = 8 * byte;
+    if first < count as u128 {
+        first as usize
+    } else {
+        count
+    }
+}
+
+/// The byte at which a lot begins.
+fn lot_byte(bytes: u128, lots: u128, lot: u128) -> u128
+    requires some { 0 < lots }
+    requires within { lot ≤ lots }
+    requires few { bytes < 2 ^ 64 }
+    ensures byte { result ≡ lot_byte bytes lots lot }
+    ensures bound { result ≤ bytes }
+{
+    lot * (bytes / lots) + lot.min(bytes % lots)
+}
+
+/// The units from one number on, and before another.
+fn between(units: &[PlanUnit], from: usize, to: usize) -> &[PlanUnit]
+    requires ordered { from ≤ to }
+    requires within { to ≤ length units.now }
+    ensures { result.now ≡ take (to - from) (drop from units.now) }
+{
+    let (_, later) = units.split_at(from);
+    let (own, _) = later.split_at(to - from);
+    own
+}
+
+/// These hashes after so many pieces that have none.
+fn hashes_after(
+    alloc: Global,
+    count: usize,
+    hashes: &[Option<PieceHash>],
+) -> Result<Vec<Option<PieceHash>>, AllocError>
+    ensures { IfOk result (λ all. all.items ≡ replicate count None ++ hashes.now) }
+{
+    let mut all = vec![in alloc; None; count]?;
+    all.extend_from_slice(hashes)?;
+    Ok(all)
+}
+
+/// The bits from one piece on, and before another.
+fn bits_between(alloc: Global, bits: &Bits, from: usize, to: usize) -> Result<Bits, AllocError>
+    requires ordered { from ≤ to }
+    requires within { to ≤ length bits.now }
+    ensures { IfOk result (λ own. own ≡ take (to - from) (drop from bits.now)) }
+{
+    let mut own = Bits::with_capacity(alloc, (to - from) as u64)?;
+    'pieces: for index in from..to {
+        own.push(bits.get(index as u64) == Some(true))?;
+    }
+    Ok(own)
+}
