@@ -7,6 +7,8 @@ pub mod Indexed
 pub mod SourceFiles
 pub mod SourceSums
 pub mod OneFile
+pub mod JoinSteps
+pub mod JoinedLots
 pub mod Judged
 pub mod JudgedFiles
 pub mod Refused
@@ -22,4 +24,10 @@ pub mod InfoThere
 pub mod MadeIsValid
 mod LinkTexts
 mod PieceLengths
+pub mod PlanNames
+pub mod PresentFields
+pub mod PlanBytes
+pub mod PlanLawful
+pub mod PlanPaths
+pub mod PlanTriples
 pub mod ProvedLaws

@@ -12,6 +12,10 @@ pub mod FromInput
 pub mod Hashes
 pub mod Judged
 pub mod LinkWords
+pub mod Listing
+pub mod Lots
 pub mod PieceLength
+pub mod PlanText
+pub mod Planned
 pub mod Rows
 pub mod steps

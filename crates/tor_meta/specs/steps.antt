@@ -1,5 +1,9 @@
 pub mod Contents
 pub mod Fields
 pub mod IndexedFiles
+pub mod Join
 pub mod Layers
+pub mod ListRefusals
+pub mod PlanParts
+pub mod PlanText
 pub mod Sums

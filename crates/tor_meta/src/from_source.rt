@@ -117,7 +117,7 @@ pub(crate) fn without_letters(
 }
 
 /// The paths in order, if no torrent is refused for them or for the order.
-fn accepted_paths<F>(
+pub(crate) fn accepted_paths<F>(
     alloc: Global,
     order: &Order,
     head: &Head,
@@ -141,7 +141,7 @@ fn accepted_paths<F>(
 }
 
 /// The list of the files of the source that have these paths, each with its letters, and the index of each.
-fn ask_lettered<S: Source>(
+pub(crate) fn ask_lettered<S: Source>(
     alloc: Global,
     source: &S,
     files: &[(FilePath, Attr)],

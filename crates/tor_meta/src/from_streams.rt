@@ -216,7 +216,7 @@ pub(crate) fn refusal_of_stream_numbers(order: &Order) -> Option<MakeError<io::E
 }
 
 /// Whether each path is below the next.
-fn are_rising(paths: &[FilePath]) -> bool
+pub(crate) fn are_rising(paths: &[FilePath]) -> bool
     ensures { result ≡ are_rising paths.now }
 {
     paths.is_sorted_by(|path, next| *path < *next)
@@ -246,7 +246,11 @@ fn lettered_list(
 }
 
 /// The list of the files that have these paths and lengths, in the same order, without letters.
-fn with_lengths(alloc: Global, paths: PathList, lengths: &[u64]) -> Result<FileList, ContentsError>
+pub(crate) fn with_lengths(
+    alloc: Global,
+    paths: PathList,
+    lengths: &[u64],
+) -> Result<FileList, ContentsError>
     requires { length lengths.now ≡ length paths }
     ensures list { (names : List (List (List ℕ))) → paths ≡ with_indices names →
         IfOk result (λ list. list.files ≡ zip names lengths.now) }

@@ -15,6 +15,12 @@
 //!   order of their paths, with letters and without.
 //! - [`torrent_of_rows`] (`from_rows.rt`): the torrent of a list of files whose pieces were hashed in lots, as
 //!   [`plan_of_list`] has them; [`refusal_of_list`] (`list_refusal.rt`): why there is none.
+//! - [`Listing`] (`listing.rt`): a head, the files of its torrent and how they are cut, judged, or the [`ListingError`]
+//!   for which there is none. [`write_plan`], [`read_plan`], [`plan_digest`] (`plans.rt`): its plan as bytes;
+//!   `plan_text.rt` writes them, `plan_reading.rt` reads them; [`PlanError`] (`listing_error.rt`).
+//! - [`make_plan`] (`planned.rt`): the plan of the files of a source. [`make_lot`] (`lots.rt`): one lot of a plan.
+//!   [`join_lots`] (`joined.rt`): the torrent of a plan and its lots, or the [`JoinError`] (`join_error.rt`) for which
+//!   there is none; `lot_rows.rt` puts the lots in order.
 //! - [`ContentsError`] (`refusals.rt`): why there is no torrent of files in memory.
 //! - `sums.rt`: the Merkle trees and the SHA-1 of the pieces, as far as a kind asks for them.
 //! - `torrent.rt`: from files and sums to bytes, by `info.rt`, `layers.rt` and `items.rt`.
@@ -50,17 +56,27 @@ mod head;
 mod indexed_files;
 mod info;
 mod items;
+mod join_error;
+mod joined;
 mod judge;
 pub mod laws;
 mod layers;
 mod link_words;
 mod list_refusal;
 mod listed_files;
+mod listing;
+mod listing_error;
+mod lot_rows;
+mod lots;
 mod make_error;
 mod making;
 mod order;
 mod output;
 mod piece_length;
+mod plan_reading;
+mod plan_text;
+mod planned;
+mod plans;
 mod refusals;
 mod sums;
 mod torrent;
@@ -73,11 +89,18 @@ pub use from_source::{make, make_with};
 pub use from_streams::{make_streams, make_streams_with};
 pub use hashes::{Hashes, info_hashes, magnet};
 pub use head::Head;
+pub use join_error::JoinError;
+pub use joined::join_lots;
 pub use link_words::magnet_with;
 pub use list_refusal::refusal_of_list;
+pub use listing::Listing;
+pub use listing_error::{ListingError, PlanError};
+pub use lots::make_lot;
 pub use make_error::MakeError;
 pub use making::make_fed;
 pub use order::{MAX_SPAN, Order};
 pub use output::{WriteFault, write_out};
 pub use piece_length::auto_piece_length;
+pub use planned::make_plan;
+pub use plans::{plan_digest, read_plan, write_plan};
 pub use refusals::ContentsError;

@@ -113,7 +113,7 @@ fn copy_of_url(alloc: Global, url: &Option<Vec<u8>>) -> Result<Option<Vec<u8>>, 
 }
 
 /// Whether a unit may have so many pieces: a power of two from 1 to 1,024.
-fn is_span(span: u32) -> bool
+pub(crate) fn is_span(span: u32) -> bool
     ensures { result ≡ is_span span }
 {
     span.is_power_of_two() && 1 <= span && span <= MAX_SPAN
