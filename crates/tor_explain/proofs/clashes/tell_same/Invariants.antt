@@ -1,0 +1,6 @@
+use Rattle.std.proofs.Common.{◌≡◌}
+use Rattle.tor_explain.proofs.clashes.tell_same.Given as goal
+
+-- nothing was told so far
+abbrev pub invariant-paths : goal.invariant-paths
+invariant-paths l = l.line ≡ l.fn.line

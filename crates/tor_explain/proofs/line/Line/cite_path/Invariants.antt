@@ -1,0 +1,5 @@
+use Rattle.std.proofs.Common.{◌≤◌, length}
+use Rattle.tor_explain.proofs.line.Line.cite_path.Given as goal
+
+abbrev pub invariant-names : goal.invariant-names
+invariant-names l = length l.fn.self ≤ length l.self
