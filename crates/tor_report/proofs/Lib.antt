@@ -1,0 +1,17 @@
+pub mod HeadLines
+pub mod HexDigits
+pub mod Faults
+pub mod Judging
+pub mod MembersTexts
+pub mod PathTexts
+pub mod ProvedLaws
+pub mod Putting
+pub mod Reports
+pub mod RootLines
+pub mod ServerTexts
+pub mod SinkLaws
+pub mod Spellings
+pub mod Texts
+pub mod TextsInJson
+pub mod Totals
+pub mod ZipTexts

@@ -1,0 +1,16 @@
+-- The name of a member, and its value.
+use Rattle.std.proofs.Common.{refl}
+use Rattle.tor_report.proofs.Faults.{fault_in, put_last, stop_last}
+use Rattle.tor_report.proofs.buffer.Buffer.put_announce_member.Goals as goal
+
+pub returns-in_err-put-clause-stopped : goal.returns-in_err-put-clause-stopped
+returns-in_err-put-clause-stopped g c =
+    fault_in g.S.Sink.lawful _ _ _ _ _ _ _ _ c.from_residual.ensures refl c.in_err-put.ensures.stopped
+
+pub returns-clause-put : goal.returns-clause-put
+returns-clause-put g c =
+    put_last _ _ _ _ _ _ _ _ _ _ refl c.in_ok-put.ensures.put c.put_announce.ensures.put
+
+pub returns-clause-stopped : goal.returns-clause-stopped
+returns-clause-stopped g c =
+    stop_last g.S.Sink.lawful _ _ _ _ _ _ _ _ _ refl c.in_ok-put.ensures.put c.put_announce.ensures.stopped

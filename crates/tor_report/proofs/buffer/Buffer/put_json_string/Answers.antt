@@ -1,0 +1,13 @@
+-- A text between quotation marks.
+use Rattle.std.proofs.Common.{refl}
+use Rattle.tor_report.proofs.Faults.{fault_after, fault_in}
+use Rattle.tor_report.proofs.buffer.Buffer.put_json_string.Goals as goal
+
+pub returns-in_err-put-clause-stopped : goal.returns-in_err-put-clause-stopped
+returns-in_err-put-clause-stopped g c =
+    fault_in g.S.Sink.lawful _ _ _ _ _ _ _ _ c.from_residual.ensures refl c.in_err-put.ensures.stopped
+
+pub returns-in_err-put_spelled-clause-stopped : goal.returns-in_err-put_spelled-clause-stopped
+returns-in_err-put_spelled-clause-stopped g c =
+    fault_after g.S.Sink.lawful _ _ _ _ _ _ _ _ _ _ _ c.from_residual-in_err-put_spelled.ensures refl
+    c.in_ok-put.ensures.put c.in_err-put_spelled.ensures.stopped

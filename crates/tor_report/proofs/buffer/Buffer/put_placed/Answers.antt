@@ -1,0 +1,23 @@
+-- The segments are those of the object of a file.
+use Rattle.std.proofs.Common.{subst, ℕ, List}
+use Rattle.std.specs.Prelude.{IfErr, OnOk}
+use Rattle.tor_report.specs.Put.{Puts, Stops}
+use Rattle.tor_report.proofs.MembersTexts.{file_segments}
+use Rattle.tor_report.proofs.buffer.Buffer.put_placed.Goals as goal
+
+pub returns-clause-put : goal.returns-clause-put
+returns-clause-put g c =
+    subst
+    (λ (xs : List ℕ). OnOk c.put_all.result (Puts g.S.Sink.took xs c.args.out.now c.args.self.now
+    c.put_all.new.out c.put_all.new.self))
+    (file_segments c.args.file.now c.args.pieces.now.span _ _ _ c.first.ensures c.count.ensures c.root_of.ensures)
+    c.put_all.ensures.put
+
+pub returns-clause-stopped : goal.returns-clause-stopped
+returns-clause-stopped g c =
+    subst
+    (λ (xs : List ℕ). IfErr c.put_all.result (λ fault. Stops g.S.Sink.took g.S.Sink.fails xs c.args.out.now
+    c.args.self.now
+    c.put_all.new.out fault.written))
+    (file_segments c.args.file.now c.args.pieces.now.span _ _ _ c.first.ensures c.count.ensures c.root_of.ensures)
+    c.put_all.ensures.stopped

@@ -1,0 +1,29 @@
+-- The first string, the others, and the bracket after them.
+use Rattle.tor_report.specs.steps.Members.{told_text}
+use Rattle.tor_report.proofs.Faults.{fault_after, fault_in, put_third, stop_third}
+use Rattle.tor_report.proofs.MembersTexts.{array_text}
+use Rattle.tor_report.proofs.buffer.Buffer.put_strings.Goals as goal
+
+pub returns-in_err-put_text-clause-stopped : goal.returns-in_err-put_text-clause-stopped
+returns-in_err-put_text-clause-stopped g c =
+    fault_in g.S.Sink.lawful _ _ _ _ _ _ _ _ c.from_residual.ensures
+    (array_text told_text c.args.texts.now c.in-Some.others.now c.in-Some.first.now c.in-Some.ensures.cases.0)
+    c.in_err-put_text.ensures.stopped
+
+pub returns-in_err-put_other_strings-clause-stopped : goal.returns-in_err-put_other_strings-clause-stopped
+returns-in_err-put_other_strings-clause-stopped g c =
+    fault_after g.S.Sink.lawful _ _ _ _ _ _ _ _ _ _ _ c.from_residual-in_err-put_other_strings.ensures
+    (array_text told_text c.args.texts.now c.in-Some.others.now c.in-Some.first.now c.in-Some.ensures.cases.0)
+    c.in_ok-put_text.ensures.put c.in_err-put_other_strings.ensures.stopped
+
+pub returns-clause-put : goal.returns-clause-put
+returns-clause-put g c =
+    put_third g.S.Sink.lawful _ _ _ _ _ _ _ _ _ _ _ _
+    (array_text told_text c.args.texts.now c.in-Some.others.now c.in-Some.first.now c.in-Some.ensures.cases.0)
+    c.in_ok-put_text.ensures.put c.in_ok-put_other_strings.ensures.put _ c.put-2.ensures.put
+
+pub returns-clause-stopped : goal.returns-clause-stopped
+returns-clause-stopped g c =
+    stop_third g.S.Sink.lawful _ _ _ _ _ _ _ _ _ _ _ _
+    (array_text told_text c.args.texts.now c.in-Some.others.now c.in-Some.first.now c.in-Some.ensures.cases.0)
+    c.in_ok-put_text.ensures.put c.in_ok-put_other_strings.ensures.put c.put-2.ensures.stopped

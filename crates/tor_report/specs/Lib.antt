@@ -1,0 +1,13 @@
+pub mod Escape
+pub mod Put
+pub mod Records
+pub mod Reports
+pub mod Segments
+pub mod Servers
+pub mod Shown
+pub mod Sinks
+pub mod Spelled
+pub mod Told
+pub mod Words
+pub mod Writers
+pub mod steps
