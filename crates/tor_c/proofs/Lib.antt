@@ -1,0 +1,4 @@
+pub mod Judged
+pub mod NotRefused
+pub mod Pieces
+pub mod Reported
