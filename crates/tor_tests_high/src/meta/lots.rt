@@ -27,7 +27,7 @@ const BOTH: Attr = Attr {
 };
 
 /// Files of three pieces, of none, of two and of one.
-const SEVERAL: &str = "a=#40000 b= c=#16385 d=abc";
+pub const SEVERAL: &str = "a=#40000 b= c=#16385 d=abc";
 
 /// The letters of each.
 const LETTERS: &[Attr] = &[EXEC, Attr::NONE, Attr::NONE, BOTH];
@@ -43,7 +43,7 @@ d4:attr2:hx6:lengthi3e4:pathl1:deee4:name1:f12:piece lengthi16384e6:pieces80:\
 ee";
 
 /// The hybrid.
-const SEVERAL_HYBRID: &[u8] =
+pub const SEVERAL_HYBRID: &[u8] =
     b"d4:infod9:file treed1:ad0:d4:attr1:x6:lengthi40000e11:pieces root32:\
 \xab\x67\x16\x31\xa9\xfa\x97\xa1\xfd\xac\x65\x1f\xff\x6c\x68\x77\
 \x3b\x9a\xcf\x07\x35\xb9\xc7\xf6\xec\xdd\x54\xcb\xf1\xbf\x5d\xc2\

@@ -21,7 +21,7 @@ type Row = (
 
 /// In version 1 `abc`, an empty file and `de`, in pieces of two bytes: the second has bytes of the first file and of
 /// the last.
-const CROSSING: &[&[u8]] = &[
+pub(crate) const CROSSING: &[&[u8]] = &[
     b"d4:infod5:filesld6:lengthi3e4:pathl1:aeed6:lengthi0e4:pathl1:beed6:lengthi2e4:pathl1:ceee4:name1:f\
 12:piece lengthi2e6:pieces60:",
     b"\xda\x23\x61\x4e\x02\x46\x9a\x0d\x7c\x7b\xd1\xbd\xab\x5c\x9c\x47\x4b\x19\x04\xdc",

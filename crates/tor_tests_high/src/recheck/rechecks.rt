@@ -206,7 +206,7 @@ pub(crate) fn files_of(alloc: Global, files: &[Option<&[u8]>]) -> Result<MemSour
 }
 
 /// Whether these are the bits, and after a space the bitfield in hexadecimal.
-fn is_told(alloc: Global, bits: &Bits, wanted: &str) -> bool {
+pub(crate) fn is_told(alloc: Global, bits: &Bits, wanted: &str) -> bool {
     match wanted.split_once(' ') {
         Some((pieces, hex)) => are_read_back(bits, pieces) && is_hex(alloc, bits, hex),
         None => false,
