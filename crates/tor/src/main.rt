@@ -6,7 +6,7 @@ ghost use Rattle.std.specs.Prelude.{◌≡◌, IfOk, map, string_bytes};
 ghost use Rattle.std.specs.Process.{exit_status};
 ghost use Rattle.std.specs.Vec.Iter.{into_iter_items};
 ghost use Rattle.clap.specs.Walk.{texts};
-ghost use Rattle.tor_cli.specs.make.Request.{IsRunOf};
+ghost use Rattle.tor_cli.specs.Run.{IsRunOf};
 ghost use Rattle.tor_cli.specs.Streams.{streams};
 
 use std::alloc::{AllocError, Global};

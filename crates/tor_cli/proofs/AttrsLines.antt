@@ -17,7 +17,7 @@ use Rattle.tor_tree.specs.Path.{IsFilePath}
 use Rattle.tor_tree.specs.declared.names.NameError.TheVariants.{Empty, Dot, DotDot, Slash, Nul, NotUtf8}
 use Rattle.tor_tree.specs.Letters.{letters}
 use Rattle.tor_cli.specs.make.AttrsText.{IsLettered, attrs_line, line_feed}
-use Rattle.tor_cli.specs.check.Shown.{path_text}
+use Rattle.tor_report.specs.Shown.{path_text}
 use Rattle.tor_tree.specs.declared.attr.Attr.{Attr}
 
 or_true : (a : Bool) → (a || true) ≡ true

@@ -3,8 +3,10 @@ use Rattle.std.proofs.Common.{◌≡◌, ℕ, ◌≤◌, ◌+◌, ◌/◌, ◌%�
 use Rattle.std.proofs.Common.{◌∙◌, arith}
 use Rattle.std.proofs.lemmas.Bool.Decides.{nat_tests}
 use Rattle.std.proofs.Math.Utf8.{encode}
+use Rattle.std.proofs.lemmas.Str.{IsUtf8-from_is_utf8, is_utf8-from_IsUtf8}
+use Rattle.std.specs.Str.{IsUtf8, is_utf8}
 use Rattle.std.specs.Prelude.{nat_lt}
-use Rattle.tor_cli.specs.text.Escape.{escape, escaped, is_escaped}
+use Rattle.tor_report.specs.Escape.{escape, escaped, is_escaped}
 
 high_plain : (b : ℕ) → 128 ≤ b → is_escaped b ≡ false
 high_plain b h = grind (arith, nat_tests)
@@ -41,3 +43,14 @@ plain_char c h =
     (either (nat_lt c 2048) _ _ (high_cons (192 + c / 64) _ (omega arith) (last c))
     (either (nat_lt c 65536) _ _ (high_cons (224 + c / 4096) _ (omega arith) (goes_on (c / 64) _ (last c)))
     (high_cons (240 + c / 262144) _ (omega arith) (goes_on (c / 4096) _ (goes_on (c / 64) _ (last c))))))
+
+-- whether bytes are text, as a test
+pub is_text : (bytes : List ℕ) → IsUtf8 bytes → is_utf8 bytes ≡ true
+is_text bytes is = is_utf8-from_IsUtf8 bytes is
+
+pub is_no_text : (bytes : List ℕ) → (IsUtf8 bytes → ⊥) → is_utf8 bytes ≡ false
+is_no_text bytes other = by_test (is_utf8 bytes) refl
+  where
+    by_test : (t : Bool) → is_utf8 bytes ≡ t → t ≡ false
+    by_test true e = absurd (other (IsUtf8-from_is_utf8 bytes e))
+    by_test false e = refl

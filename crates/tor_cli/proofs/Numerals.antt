@@ -56,9 +56,14 @@ prefix_len-ends p (x ∷ xs) rest c all ends =
     let both = and_parts (p x) (list_all p xs) all in
     rw both.0 (omega (arith, prefix_len-ends p xs rest c both.1 ends))
 
--- how many digits stand before a line feed
+-- how many digits stand before what is none
+pub count_digits-before : (ending n : ℕ) (line rest : List ℕ) → is_ascii_digit ending ≡ false → n < 2 ^ 64
+    → line ≡ base_ten n ++ ending ∷ rest → prefix_len is_ascii_digit line ≡ length (base_ten n)
+count_digits-before ending n line rest none small same =
+    ap (prefix_len is_ascii_digit) same
+    ∙ prefix_len-ends is_ascii_digit (base_ten n) rest ending (digits-base_ten n small) none
+
+-- and before a line feed
 pub count_digits-base_ten : (n : ℕ) (line rest : List ℕ) → n < 2 ^ 64 → line ≡ base_ten n ++ 10 ∷ rest
     → prefix_len is_ascii_digit line ≡ length (base_ten n)
-count_digits-base_ten n line rest small same =
-    ap (prefix_len is_ascii_digit) same
-    ∙ prefix_len-ends is_ascii_digit (base_ten n) rest 10 (digits-base_ten n small) refl
+count_digits-base_ten n line rest small same = count_digits-before 10 n line rest refl small same

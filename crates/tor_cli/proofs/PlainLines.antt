@@ -4,7 +4,7 @@ use Rattle.std.proofs.lemmas.Bool.Decides.{nat_tests}
 use Rattle.std.proofs.lemmas.List.Elements.{All-append, All-from_recursion, All-nil}
 use Rattle.std.specs.Char.{digit_char}
 use Rattle.std.specs.List.{All}
-use Rattle.tor_cli.specs.text.Escape.{backslash, delete, escape, escaped, is_escaped, letter_x}
+use Rattle.tor_report.specs.Escape.{backslash, delete, escape, escaped, is_escaped, letter_x}
 
 abbrev IsPlain : ℕ → Type 0
 IsPlain byte = (32 ≤ byte) × (byte ≢ delete)

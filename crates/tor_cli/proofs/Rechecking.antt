@@ -6,6 +6,8 @@ use Rattle.std.proofs.lemmas.Bool.{eqb-true, le-leb, leb-true}
 use Rattle.std.proofs.lemmas.List.{length-map}
 use Rattle.std.specs.declared.io.Error.{Error}
 use Rattle.tor_check.specs.Valid.{IsTold}
+use Rattle.tor_meta.specs.declared.hashes.Hashes.{Hashes}
+use Rattle.tor_report.specs.Told.{Describes}
 use Rattle.tor_sums.specs.How.{IsHow}
 use Rattle.tor_sums.specs.declared.how.How.{How}
 use Rattle.tor_sums.specs.declared.how.How.TheVariants.{Board}
@@ -96,6 +98,8 @@ not_judged bytes (faults.Make error) why = absurd why
 not_judged bytes (faults.Refused refusal) why = why
 not_judged bytes (faults.Piece error) why = absurd why
 not_judged bytes (faults.Recheck error) why = absurd why
+not_judged bytes (faults.Plan error) why = absurd why
+not_judged bytes (faults.Join error part) why = absurd why
 not_judged bytes (faults.NotAsMade good pieces) why = absurd why
 not_judged bytes faults.OutAmongFiles why = absurd why
 not_judged bytes (faults.Argument fault) why = absurd why
@@ -114,6 +118,8 @@ unplaced workers bytes (faults.Make error) why = why
 unplaced workers bytes (faults.Refused refusal) why = why
 unplaced workers bytes (faults.Piece error) why = why
 unplaced workers bytes (faults.Recheck error) why = absurd why
+unplaced workers bytes (faults.Plan error) why = why
+unplaced workers bytes (faults.Join error part) why = why
 unplaced workers bytes (faults.NotAsMade good pieces) why = why
 unplaced workers bytes faults.OutAmongFiles why = why
 unplaced workers bytes (faults.Argument fault) why = why
@@ -169,3 +175,7 @@ module _ (place : List ℕ) (view : View) (places : List (List ℕ)) where
   places_count (Nothing, is) = each_below is
   places_count (NotTold, is) = each_below is
   places_count (NoMemory, is) = absurd is
+
+-- what bytes describe is told of them
+pub told_of : {bytes : List ℕ} {view : View} {hashes : Hashes} → Describes bytes view hashes → IsTold bytes view
+told_of (root, same, with) = (root, with.torrent, same)

@@ -8,7 +8,11 @@ use Rattle.tor_meta.specs.MakeError.{out_of_resources}
 use Rattle.tor_meta.specs.declared.make_error.MakeError.TheVariants as makes
 use Rattle.tor_sums.specs.declared.errors.EngineError.TheVariants as engine
 use Rattle.tor_meta.specs.declared.order.Order.{Order}
-use Rattle.tor_meta.specs.Make.{IsOwn}
+use Rattle.tor_meta.specs.Make.{IsGivenTo, IsOwn, make_refusal}
+use Rattle.tor_source.specs.Answers.{system_answers}
+use Rattle.tor_sums.specs.declared.how.How.{How}
+use Rattle.tor_cli.specs.declared.make.way.Way.{Way}
+use Rattle.tor_cli.specs.declared.make.way.Way.TheVariants.{Shared}
 use Rattle.tor_source.specs.declared.faults.ScanFault.{ScanFault}
 use Rattle.tor_source.specs.declared.faults.ScanFault.TheVariants as scans
 use Rattle.tor_tree.specs.FileList.{paths_of}
@@ -17,9 +21,9 @@ use Rattle.tor_tree.specs.declared.attr.Attr.{Attr}
 use Rattle.tor_source.specs.Input.{EndsInput, ReadsSome}
 use Rattle.tor_meta.specs.FromInput.{MakesOf, StopsReading}
 use Rattle.tor_cli.specs.make.Attrs.{IsNotLettered}
-use Rattle.tor_cli.specs.Place.{AreFound, IsGivenBy, IsNotFound, refusal_by}
-use Rattle.tor_cli.specs.make.Request.{IsOrderOf, IsOrderOfOne, IsRefusedFirst, OnlyReads, SendsFront, StopsFinding}
-use Rattle.tor_cli.specs.make.Request.{StopsInput, StopsPlace, StopsSending, attrs_of, file_of, input_refusal}
+use Rattle.tor_cli.specs.Place.{AreFilesAt, IsChosenMissing, IsGivenBy, IsNotFound, refusal_by}
+use Rattle.tor_cli.specs.make.Request.{IsOrderOf, IsOrderOfOne, IsRefusedFirst, OnlyReads, SendsFront, StopsFiles}
+use Rattle.tor_cli.specs.make.Request.{StopsFinding, StopsInput, StopsSending, attrs_of, file_of, input_refusal}
 use Rattle.tor_cli.specs.steps.Lettering.{IsNotOrdered}
 use Rattle.tor_cli.specs.Streams.{IsUntouched, Streams}
 use Rattle.tor_cli.specs.Status.{of_input_fault, of_make_error, of_scan_fault, of_step_fault}
@@ -134,69 +138,84 @@ module _ (options : MakeOptions) (s : Streams) where
       (order, attr, is, (content, sent))
 
   -- a fault that comes before anything was written
-  pub stops_sending : (fault : Fault) → StopsSending options fault → IsUntouched s → StopsPlace options s fault
+  pub stops_sending : (chosen : Option (List (List (List ℕ)))) → (fault : Fault) → StopsSending options chosen fault
+      → IsUntouched s → StopsFiles options chosen s fault
   unfolding of_letters
-  stops_sending (faults.Usage line) why untouched = (why, untouched)
-  stops_sending (faults.Name fault) why untouched = (why, untouched)
-  stops_sending (faults.Scan fault) why untouched = (why, untouched)
-  stops_sending (faults.Make error) why untouched = (why, untouched)
-  stops_sending (faults.Refused refusal) why untouched = (why, untouched)
-  stops_sending (faults.Piece error) why untouched = (why, untouched)
-  stops_sending (faults.Recheck error) why untouched = (why, untouched)
-  stops_sending (faults.NotAsMade good pieces) why untouched = (why, untouched)
-  stops_sending faults.OutAmongFiles why untouched = (why, untouched)
-  stops_sending (faults.Argument fault) why untouched = (why, untouched)
-  stops_sending faults.Read why untouched = (why, untouched)
-  stops_sending faults.TooLong why untouched = (why, untouched)
-  stops_sending (faults.Write written) why untouched = absurd (no_write why)
-    where
-      no_write : StopsSending options (faults.Write written) → ⊥
-      no_write (inl (named, (single, paths, found, why))) =
-          no_other (attrs_of options) paths (faults.Write written) refl why
-      no_write (inr kept) = kept.1.2
-  stops_sending faults.Resources why untouched = (why, untouched)
+  stops_sending chosen (faults.Usage line) why untouched = (why, untouched)
+  stops_sending chosen (faults.Name fault) why untouched = (why, untouched)
+  stops_sending chosen (faults.Scan fault) why untouched = (why, untouched)
+  stops_sending chosen (faults.Make error) why untouched = (why, untouched)
+  stops_sending chosen (faults.Refused refusal) why untouched = (why, untouched)
+  stops_sending chosen (faults.Piece error) why untouched = (why, untouched)
+  stops_sending chosen (faults.Recheck error) why untouched = (why, untouched)
+  stops_sending chosen (faults.Plan error) why untouched = (why, untouched)
+  stops_sending chosen (faults.Join error part) why untouched = (why, untouched)
+  stops_sending chosen (faults.NotAsMade good pieces) why untouched = (why, untouched)
+  stops_sending chosen faults.OutAmongFiles why untouched = (why, untouched)
+  stops_sending chosen (faults.Argument fault) why untouched = (why, untouched)
+  stops_sending chosen faults.Read why untouched = (why, untouched)
+  stops_sending chosen faults.TooLong why untouched = (why, untouched)
+  stops_sending chosen (faults.Write written) why untouched = inl (why, untouched)
+  stops_sending chosen faults.Resources why untouched = (why, untouched)
 
--- an error of making is of the order and the paths
-pub finding_make : (options : MakeOptions) (order : Order) (files : List (List (List ℕ) × Attr))
-    (error : MakeError Error) → IsOrderOf options order files
-    → IsOwn (refusal_by options.way order (paths_of files)) error
-    → IsRefusedFirst (refusal_by options.way order (paths_of files)) error → IsGivenBy options.way (length files) error
-    → StopsFinding options (of_make_error error)
-finding_make options order files error is own first gave = elim (kept_or_memory error) [
-  | inl kept ↦ rw kept.1 (order, files, is, own, first, gave, is_no_memory error kept.0)
-  | inr memory ↦ rw memory tt
-]
+module _ (options : MakeOptions) (chosen : Option (List (List (List ℕ)))) where
+  -- an error of making is of the order and the paths
+  pub finding_make : (order : Order) (files : List (List (List ℕ) × Attr))
+      (error : MakeError Error) → IsOrderOf options chosen order files
+      → IsOwn (refusal_by options.way order (paths_of files)) error
+      → IsRefusedFirst (refusal_by options.way order (paths_of files)) error
+      → IsGivenBy options.way (length files) error → StopsFinding options chosen (of_make_error error)
+  finding_make order files error is own first gave = elim (kept_or_memory error) [
+    | inl kept ↦ rw kept.1 (inr (order, files, is, own, first, gave, is_no_memory error kept.0))
+    | inr memory ↦ rw memory tt
+  ]
 
--- why no files were found, of which a scan's want of memory is the program's own
-pub not_scanned : (name : List ℕ) (attrs : Option (List ℕ)) (fault : ScanFault)
-    → IsNotFound name attrs (of_scan_fault fault)
-not_scanned name attrs scans.NotUtf8 = λ same. cc
-not_scanned name attrs scans.NotRegular = λ same. cc
-not_scanned name attrs scans.TooDeep = λ same. cc
-not_scanned name attrs scans.System = λ same. cc
-not_scanned name attrs scans.Memory = tt
+  -- so is one of workers that read what they hash
+  pub finding_shared : (how : How) → options.way ≡ Shared how → (order : Order)
+      (files : List (List (List ℕ) × Attr)) (error : MakeError Error) → IsOrderOf options chosen order files
+      → IsOwn (make_refusal order (paths_of files)) error → IsRefusedFirst (make_refusal order (paths_of files)) error
+      → IsGivenTo (system_answers (length files)) (length files) error
+      → StopsFinding options chosen (of_make_error error)
+  finding_shared how same order files error is own first gave =
+      finding_make order files error is
+      (subst (λ (way : Way). IsOwn (refusal_by way order (paths_of files)) error) (sym same) own)
+      (subst (λ (way : Way). IsRefusedFirst (refusal_by way order (paths_of files)) error) (sym same) first)
+      (subst (λ (way : Way). IsGivenBy way (length files) error) (sym same) gave)
 
--- that files get no letters is why none were found
-pub not_lettered : (name : List ℕ) (attrs : Option (List ℕ)) (single : Bool) (paths : List (List (List ℕ)))
-    → AreFound name single paths → (fault : Fault) → IsNotLettered attrs paths fault → IsNotFound name attrs fault
-unfolding of_letters
-not_lettered name attrs single paths found (faults.Scan fault) why =
-    absurd (no_other attrs paths (faults.Scan fault) refl why)
-not_lettered name attrs single paths found faults.Resources why = tt
-not_lettered name attrs single paths found fault why = (single, paths, found, why)
+  -- why no files were found, of which a scan's want of memory is the program's own
+  pub not_scanned : (name : List ℕ) (attrs : Option (List ℕ)) (fault : ScanFault)
+      → IsNotFound name chosen attrs (of_scan_fault fault)
+  not_scanned name attrs scans.NotUtf8 = λ same. cc
+  not_scanned name attrs scans.NotRegular = λ same. cc
+  not_scanned name attrs scans.TooDeep = λ same. cc
+  not_scanned name attrs scans.System = λ same. cc
+  not_scanned name attrs scans.Memory = tt
 
--- and that none were found is why there is no torrent of them
-pub not_found : (options : MakeOptions) → name_fault options.name.now ≡ None → (fault : Fault)
-    → IsNotFound options.name.now (attrs_of options) fault → StopsFinding options fault
-unfolding of_letters
-not_found options named (faults.Name fault) (single, paths, found, why) =
-    absurd (no_other (attrs_of options) paths (faults.Name fault) refl why)
-not_found options named (faults.Make error) (single, paths, found, why) =
-    absurd (no_other (attrs_of options) paths (faults.Make error) refl why)
-not_found options named faults.OutAmongFiles (single, paths, found, why) =
-    absurd (no_other (attrs_of options) paths faults.OutAmongFiles refl why)
-not_found options named faults.Resources why = tt
-not_found options named fault why = (named, why)
+  -- that files get no letters is why none were found
+  pub not_lettered : (name : List ℕ) (attrs : Option (List ℕ)) (single : Bool) (paths : List (List (List ℕ)))
+      → AreFilesAt name chosen single paths → (fault : Fault) → IsNotLettered attrs paths fault
+      → IsNotFound name chosen attrs fault
+  unfolding of_letters
+  not_lettered name attrs single paths found (faults.Scan fault) why =
+      absurd (no_other attrs paths (faults.Scan fault) refl why)
+  not_lettered name attrs single paths found (faults.Make error) why =
+      absurd (no_other attrs paths (faults.Make error) refl why)
+  not_lettered name attrs single paths found faults.Resources why = tt
+  not_lettered name attrs single paths found fault why = (single, paths, found, why)
+
+  -- and that none were found is why there is no torrent of them
+  pub not_found : name_fault options.name.now ≡ None → (fault : Fault)
+      → IsNotFound options.name.now chosen (attrs_of options) fault → StopsFinding options chosen fault
+  unfolding of_letters
+  not_found named (faults.Name fault) (single, paths, found, why) =
+      absurd (no_other (attrs_of options) paths (faults.Name fault) refl why)
+  not_found named (faults.Make error) missing = inl (named, missing)
+  not_found named faults.OutAmongFiles (single, paths, found, why) =
+      absurd (no_other (attrs_of options) paths faults.OutAmongFiles refl why)
+  not_found named (faults.Write written) (single, paths, found, why) =
+      absurd (no_other (attrs_of options) paths (faults.Write written) refl why)
+  not_found named faults.Resources why = tt
+  not_found named fault why = (named, why)
 
 -- what keeps one file from its order, after all was read
 pub not_ordered : (options : MakeOptions) (s : Streams) (fault : Fault) → IsNotOrdered options fault → OnlyReads s
@@ -219,6 +238,10 @@ not_ordered options s (faults.Piece error) (named, why) read =
     absurd (no_other (attrs_of options) ((options.name.now ∷ []) ∷ []) (faults.Piece error) refl why)
 not_ordered options s (faults.Recheck error) (named, why) read =
     absurd (no_other (attrs_of options) ((options.name.now ∷ []) ∷ []) (faults.Recheck error) refl why)
+not_ordered options s (faults.Plan error) (named, why) read =
+    absurd (no_other (attrs_of options) ((options.name.now ∷ []) ∷ []) (faults.Plan error) refl why)
+not_ordered options s (faults.Join error part) (named, why) read =
+    absurd (no_other (attrs_of options) ((options.name.now ∷ []) ∷ []) (faults.Join error part) refl why)
 not_ordered options s (faults.NotAsMade good pieces) (named, why) read =
     absurd (no_other (attrs_of options) ((options.name.now ∷ []) ∷ []) (faults.NotAsMade good pieces) refl why)
 not_ordered options s faults.OutAmongFiles (named, why) read =

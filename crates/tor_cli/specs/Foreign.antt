@@ -1,30 +1,17 @@
 -- What the program prints of a torrent in a file of the system. No contract says which bytes a file has, so a clause
 -- speaks of some bytes: those that the program took for the file's.
-use Rattle.std.specs.Prelude.{◌≡◌, ◌≢◌, ◌≤◌, ℕ, List, length}
+use Rattle.std.specs.Prelude.{◌≡◌, ◌≢◌, ◌≤◌, ℕ, List, Option, length}
 use Rattle.std.specs.Io.KnownBytes.{Appends}
 use Rattle.tor_bencode.specs.Data.{Data}
-use Rattle.tor_bencode.specs.Spelling.{spelling}
 use Rattle.tor_check.specs.Valid.{IsRefusedFor}
 use Rattle.tor_check.specs.declared.refusal.Refusal.TheVariants.{Memory}
-use Rattle.tor_meta.specs.Hashes.{AreInfoHashes}
 use Rattle.tor_meta.specs.declared.hashes.Hashes.{Hashes}
-use Rattle.tor_spec.specs.valid.Conditions.{IsTorrentOf}
-use Rattle.tor_spec.specs.valid.Parts.{info_of, kind_of}
-use Rattle.tor_spec.specs.valid.View.{View, view_of}
 use Rattle.tor_meta.specs.FromInput.{IsFront}
+use Rattle.tor_report.specs.Told.{IsTorrentWith}
 use Rattle.tor_cli.specs.Streams.{IsUntouched, Streams}
 use Rattle.tor_source.specs.declared.input.TheConstants.{MAX_INPUT_LENGTH}
 use Rattle.tor_cli.specs.declared.fault.Fault.{Fault}
 use Rattle.tor_cli.specs.declared.fault.Fault.TheVariants.{Refused, Read, TooLong, Write, Resources}
-
--- the bytes are the torrent that this tree is, which has these info hashes (profile)
-pub record IsTorrentWith (bytes : List ℕ) (root : Data) (hashes : Hashes) : Type 0 where
-  pub torrent : IsTorrentOf root bytes
-  pub hashed : AreInfoHashes (kind_of (info_of root)) (spelling (info_of root)) hashes
-
--- the bytes are a torrent, which describes this, and has these info hashes (profile)
-abbrev pub Describes : List ℕ → View → Hashes → Type 0
-Describes bytes view hashes = (root : Data) × (view ≡ view_of root) × IsTorrentWith bytes root hashes
 
 -- the bytes are a torrent, and the text is its lines (profile)
 abbrev pub AreLinesOf : (Data → Hashes → List ℕ) → List ℕ → List ℕ → Type 0
@@ -44,6 +31,13 @@ OfSome Holds = (bytes : List ℕ) × (length bytes ≤ MAX_INPUT_LENGTH) × Hold
 -- the lines of a torrent, of which this holds
 abbrev pub TellsOfSome : (Data → Hashes → List ℕ) → (List ℕ → Type 0) → Type 0
 TellsOfSome lines Holds = OfSome (λ bytes. (text : List ℕ) × AreLinesOf lines bytes text × Holds text)
+
+-- why the lines of the torrent that these bytes are did not go out whole: they are none, and nothing was written; or a
+-- front of the lines was
+abbrev pub IsNotTold : (Data → Hashes → List ℕ) → List ℕ → Option (List ℕ) → Option (List ℕ) → Fault → Type 0
+IsNotTold lines bytes writer writer' (Write written) =
+    (text : List ℕ) × AreLinesOf lines bytes text × IsFront writer writer' written text
+IsNotTold lines bytes writer writer' fault = IsNoTorrent bytes fault × (writer' ≡ writer)
 
 -- what is written of the torrent that some bytes are. It is the lines of a torrent, and nothing else (profile)
 abbrev pub DoesTell : (Data → Hashes → List ℕ) → Streams → Type 0

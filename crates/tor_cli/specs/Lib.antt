@@ -1,13 +1,17 @@
 pub mod CommandLine
 pub mod Foreign
 pub mod Place
+pub mod Run
 pub mod Status
 pub mod Streams
 pub mod Words
 pub mod check
+pub mod edit
+pub mod lots
 pub mod make
 pub mod progress
 pub mod proof
 pub mod recheck
+pub mod scan
 pub mod steps
 pub mod text

@@ -14,7 +14,7 @@ use Rattle.tor_tree.specs.Path.{path_cmp}
 use Rattle.tor_source.specs.declared.faults.ScanFault.TheVariants as scans
 use Rattle.tor_cli.specs.make.Attrs.{IsNotLettered}
 use Rattle.tor_cli.specs.declared.fault.Fault.{Fault}
-use Rattle.tor_cli.specs.declared.fault.Fault.TheVariants.{Scan, Resources as NoResources}
+use Rattle.tor_cli.specs.declared.fault.Fault.TheVariants.{Make, Scan, Resources as NoResources}
 use Rattle.tor_cli.specs.declared.make.way.Way.{Way}
 use Rattle.tor_cli.specs.declared.make.way.Way.TheVariants.{Shared, Streams}
 
@@ -24,12 +24,29 @@ abbrev pub AreFound : List ℕ → Bool → List (List (List ℕ)) → Type 0
 AreFound name true paths = paths ≡ (name ∷ []) ∷ []
 AreFound name false paths = IsStrictlySortedBy path_cmp paths × All (λ path. length path ≤ 64) paths
 
+-- they are the files that are chosen below a folder, if a list chooses some (profile)
+abbrev pub AreAsChosen : Option (List (List (List ℕ))) → Bool → List (List (List ℕ)) → Type 0
+AreAsChosen None single paths = Unit {0}
+AreAsChosen (Some chosen) single paths = (single ≡ false) × (paths ≡ chosen)
+
+-- the files at a place, of which a list may choose some
+pub record AreFilesAt (name : List ℕ) (chosen : Option (List (List (List ℕ)))) (single : Bool)
+    (paths : List (List (List ℕ))) : Type 0 where
+  pub found : AreFound name single paths
+  pub as_chosen : AreAsChosen chosen single paths
+
+-- a file that a list chooses is not there. Which that is no contract says (profile)
+abbrev pub IsChosenMissing : Option (List (List (List ℕ))) → MakeError Error → Type 0
+IsChosenMissing (Some chosen) (Hashing (engine.Missing file)) = file < length chosen
+IsChosenMissing chosen error = ⊥
+
 -- why there are no files with letters at a place. The letters may be in a file (profile)
-abbrev pub IsNotFound : List ℕ → Option (List ℕ) → Fault → Type 0
-IsNotFound name attrs (Scan fault) = fault ≢ scans.Memory
-IsNotFound name attrs NoResources = Unit {0}
-IsNotFound name attrs fault =
-    (single : Bool) × (paths : List (List (List ℕ))) × AreFound name single paths × IsNotLettered attrs paths fault
+abbrev pub IsNotFound : List ℕ → Option (List (List (List ℕ))) → Option (List ℕ) → Fault → Type 0
+IsNotFound name chosen attrs (Scan fault) = fault ≢ scans.Memory
+IsNotFound name chosen attrs (Make error) = IsChosenMissing chosen error
+IsNotFound name chosen attrs NoResources = Unit {0}
+IsNotFound name chosen attrs fault = (single : Bool) × (paths : List (List (List ℕ)))
+    × AreFilesAt name chosen single paths × IsNotLettered attrs paths fault
 
 -- why an order is refused before a byte is read; for streams there are more reasons
 abbrev pub refusal_by : Way → Order → List (List (List ℕ)) → Option (MakeError Error)

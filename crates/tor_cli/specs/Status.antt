@@ -14,13 +14,22 @@ use Rattle.tor_source.specs.declared.faults.ScanFault.{ScanFault}
 use Rattle.tor_source.specs.declared.faults.ScanFault.TheVariants as scans
 use Rattle.tor_tree.specs.declared.names.NameError.{NameError}
 use Rattle.tor_tree.specs.declared.names.NameError.TheVariants as names
+use Rattle.tor_tree.specs.declared.lists.ListError.{ListError}
+use Rattle.tor_tree.specs.declared.lists.ListError.TheVariants as lists
 use Rattle.tor_source.specs.declared.input.InputFault.{InputFault}
 use Rattle.tor_source.specs.declared.input.InputFault.TheVariants as inputs
+use Rattle.tor_meta.specs.declared.listing_error.PlanError.{PlanError}
+use Rattle.tor_meta.specs.declared.listing_error.PlanError.TheVariants as plans
+use Rattle.tor_report.specs.declared.fault.ReportFault.{ReportFault}
+use Rattle.tor_report.specs.declared.fault.ReportFault.TheVariants as reports
 use Rattle.tor_meta.specs.declared.from_input.FromFault.{FromFault}
 use Rattle.tor_meta.specs.declared.from_input.FromFault.TheVariants as steps
+use Rattle.tor_cli.specs.declared.make.paths_text.PathsFault.{PathsFault}
+use Rattle.tor_cli.specs.declared.make.paths_text.PathsFault.TheVariants as texts
+use Rattle.tor_cli.specs.declared.proof.claim.ArgumentFault.TheVariants.{Files}
 use Rattle.tor_cli.specs.declared.fault.Fault.{Fault}
 use Rattle.tor_cli.specs.declared.fault.Fault.TheVariants.{Usage, Name, Scan, Make, Refused, Piece, Recheck, Argument}
-use Rattle.tor_cli.specs.declared.fault.Fault.TheVariants.{NotAsMade, OutAmongFiles, Read, TooLong, Write, Resources}
+use Rattle.tor_cli.specs.declared.fault.Fault.TheVariants.{Plan, Join, NotAsMade, OutAmongFiles, Read, TooLong, Write, Resources}
 
 abbrev pub of_input_fault : InputFault → Fault
 of_input_fault inputs.Read = Read
@@ -30,6 +39,15 @@ of_input_fault inputs.Memory = Resources
 abbrev pub of_name_error : NameError → Fault
 of_name_error names.Memory = Resources
 of_name_error fault = Name fault
+
+abbrev pub of_paths_fault : PathsFault → Fault
+of_paths_fault (texts.Name fault) = Name fault
+of_paths_fault texts.Unended = Argument Files
+of_paths_fault texts.Memory = Resources
+
+abbrev pub of_list_error : ListError → Fault
+of_list_error lists.Memory = Resources
+of_list_error fault = Make (makes.List fault)
 
 abbrev pub of_scan_fault : ScanFault → Fault
 of_scan_fault scans.Memory = Resources
@@ -47,9 +65,18 @@ abbrev pub of_piece_error : ProveError → Fault
 of_piece_error pieces.Memory = Resources
 of_piece_error error = Piece error
 
+-- of a plan, which is judged as `join` judges it
+abbrev pub of_plan_error : PlanError → Fault
+of_plan_error plans.Memory = Resources
+of_plan_error error = Plan error
+
 abbrev pub of_recheck_error : RecheckError Error → Fault
 of_recheck_error rechecks.Resources = Resources
 of_recheck_error error = Recheck error
+
+abbrev pub of_report_fault : ReportFault → Fault
+of_report_fault reports.Memory = Resources
+of_report_fault (reports.Write fault) = Write fault.written
 
 abbrev pub of_step_fault : FromFault → Fault
 of_step_fault (steps.Input fault) = of_input_fault fault
@@ -96,6 +123,8 @@ status_of (Make error) = status_of_make error
 status_of (Refused refusal) = status_of_refusal refusal
 status_of (Piece error) = status_of_piece error
 status_of (Recheck error) = status_of_recheck error
+status_of (Plan error) = 1
+status_of (Join error part) = 1
 status_of (NotAsMade good pieces) = 1
 status_of OutAmongFiles = 1
 status_of (Argument fault) = 1

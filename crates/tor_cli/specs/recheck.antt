@@ -1,3 +1,5 @@
+pub mod BadBytes
 pub mod FoundFiles
+pub mod LotRecheck
 pub mod Recheck
 pub mod Whereabouts

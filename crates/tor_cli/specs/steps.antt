@@ -6,3 +6,4 @@ pub mod Lettering
 pub mod Places
 pub mod Rules
 pub mod Writing
+pub mod WholeFiles

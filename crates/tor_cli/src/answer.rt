@@ -1,5 +1,5 @@
 //! What the program answers if no fault stops it.
-ghost use Rattle.std.specs.Prelude.{◌≡◌};
+ghost use Rattle.std.specs.Prelude.{◌≡◌, ◌≤◌};
 ghost use Rattle.tor_cli.specs.steps.Ending.{status_of_answer};
 
 /// What came of a request.
@@ -14,7 +14,8 @@ pub enum Answer {
 impl Answer {
     /// The status that the program ends with.
     pub fn status(self) -> u8
-        ensures { result ≡ status_of_answer self }
+        ensures value { result ≡ status_of_answer self }
+        ensures within { result ≤ 4 }
     {
         match self {
             Answer::Yes => 0,

@@ -1,24 +1,32 @@
 //! The command line: what the words ask for. Here stand help and the version; each command has a file of its own.
 ghost use Rattle.clap.specs.Walk.{texts};
-ghost use Rattle.clap.specs.Words.{app_of, with_subcommand};
+ghost use Rattle.clap.specs.Words.{app_of, found_of, rows_of, subcommand_rows_of, with_subcommand};
 ghost use Rattle.clap.specs.declared.builder.command.Command.{Command as BuiltCommand};
-ghost use Rattle.clap.specs.declared.builder.value_parser.ValueParser.{ValueParser};
-ghost use Rattle.std.specs.Prelude.{◌≡◌, IfErr, IfOk, IfSome, Ok, true};
-ghost use Rattle.tor_cli.specs.CommandLine.{AreHows, AreKinds, piece_apps, tor_app, torrent_apps, with_commands};
+ghost use Rattle.std.specs.Prelude.{◌≡◌, IfErr, IfOk, IfSome, Ok, Some, codes, true};
+ghost use Rattle.tor_cli.specs.CommandLine.{Parsers, explained, piece_apps, tor_app, torrent_apps, with_commands};
 ghost use Rattle.tor_cli.specs.Words.{Asks, IsOfWords};
 ghost use Rattle.tor_cli.specs.steps.Found.{IsFoundIn};
 
 use crate::check::link::{MagnetOptions, magnet_command, magnet_options};
 use crate::check::words::{CheckOptions, check_command, check_options};
+use crate::edit::words::{EditOptions, edit_command, edit_options};
 use crate::fault::Fault;
+use crate::lots::join_words::{JoinOptions, join_command, join_options};
+use crate::lots::lot_words::{LotOptions, lot_options};
+use crate::lots::number::lot_of;
+use crate::lots::plan_options::PlanOptions;
+use crate::lots::plan_words::{plan_command, plan_options};
 use crate::make::options::{MakeOptions, make_options, piece_length_in};
 use crate::make::piece_length::piece_length_fault;
 use crate::make::words::make_command;
 use crate::proof::words::{
     ProveOptions, VerifyOptions, prove_command, prove_options, verify_command, verify_options,
 };
+use crate::recheck::lot_words::{LotRecheckOptions, lot_recheck_options};
 use crate::recheck::words::{RecheckOptions, recheck_command, recheck_options};
+use crate::scan::words::{ScanOptions, scan_command, scan_options};
 use crate::text::escape::escaped;
+use crate::torrent_words::{flag_of, with_words};
 use crate::workers::workers_fault;
 use clap::error::ErrorKind;
 use clap::{ArgMatches, Command};
@@ -36,6 +44,16 @@ pub enum Request<'a> {
     /// To print a text: help, or the version.
     Show(String),
     Make(MakeOptions<'a>),
+    /// To make the plan by which many machines hash one torrent.
+    Plan(PlanOptions<'a>),
+    /// To hash one lot of a plan.
+    Lot(LotOptions<'a>),
+    /// To make the torrent of a plan and its parts.
+    Join(JoinOptions<'a>),
+    /// To write a torrent with another tracker.
+    Edit(EditOptions<'a>),
+    /// To tell what `make` would take of a place.
+    Scan(ScanOptions<'a>),
     /// To tell what a torrent describes.
     Check(CheckOptions<'a>),
     /// To print a torrent's magnet link.
@@ -46,6 +64,8 @@ pub enum Request<'a> {
     Verify(VerifyOptions<'a>),
     /// To tell which pieces are there and right.
     Recheck(RecheckOptions<'a>),
+    /// To tell it of one lot of the pieces.
+    RecheckLot(LotRecheckOptions<'a>),
 }
 
 /// Reads the words, of which the first is the program's name.
@@ -66,11 +86,10 @@ pub fn read_words<'a, T: Threads>(
 }
 
 fn tor_command<'a>(alloc: Global) -> Result<Command<'a>, AllocError>
-    ensures { IfOk result (λ command. (kinds hows : ValueParser) × AreKinds kinds × AreHows hows
-        × (app_of command ≡ tor_app kinds hows)) }
+    ensures { IfOk result (λ command. (parsers : Parsers) × (app_of command ≡ tor_app parsers)) }
 {
     let top = Command::new(alloc, "tor")
-        .version("1.1.0")
+        .version("1.2.0")
         .about("Makes, checks and rechecks BitTorrent metainfo files, and proves single pieces")
         .after_help(MORE)
         .subcommand_required(true)
@@ -81,12 +100,16 @@ fn tor_command<'a>(alloc: Global) -> Result<Command<'a>, AllocError>
 
 /// Adds the commands over whole torrents.
 fn add_torrent_commands<'a>(alloc: Global, command: Command<'a>) -> Result<Command<'a>, AllocError>
-    ensures { IfOk result (λ added. (kinds hows : ValueParser) × AreKinds kinds × AreHows hows
-        × (app_of added ≡ with_commands (app_of command.entry) (torrent_apps kinds hows))) }
+    ensures { IfOk result (λ added. (parsers : Parsers)
+        × (app_of added ≡ with_commands (app_of command.entry) (torrent_apps parsers))) }
 {
-    let making = with_command(command, make_command(alloc))?;
-    let checking = with_command(making, check_command(alloc))?;
-    with_command(checking, magnet_command(alloc))
+    let making = with_command(alloc, command, make_command(alloc))?;
+    let planning = with_command(alloc, making, plan_command(alloc))?;
+    let joining = with_command(alloc, planning, join_command(alloc))?;
+    let scanning = with_command(alloc, joining, scan_command(alloc))?;
+    let checking = with_command(alloc, scanning, check_command(alloc))?;
+    let linking = with_command(alloc, checking, magnet_command(alloc))?;
+    with_command(alloc, linking, edit_command(alloc))
 }
 
 /// Adds the commands over single pieces.
@@ -94,22 +117,28 @@ fn add_piece_commands<'a>(alloc: Global, command: Command<'a>) -> Result<Command
     ensures { IfOk result (λ added.
         app_of added ≡ with_commands (app_of command.entry) piece_apps) }
 {
-    let proving = with_command(command, prove_command(alloc))?;
-    let verifying = with_command(proving, verify_command(alloc))?;
-    with_command(verifying, recheck_command(alloc))
+    let proving = with_command(alloc, command, prove_command(alloc))?;
+    let verifying = with_command(alloc, proving, verify_command(alloc))?;
+    with_command(alloc, verifying, recheck_command(alloc))
 }
 
-/// The command, and one more below it.
+/// The command, and one more below it, which takes `--explain` too.
 fn with_command<'a>(
+    alloc: Global,
     command: Command<'a>,
     below: Result<Command<'a>, AllocError>,
 ) -> Result<Command<'a>, AllocError>
     ensures { IfOk result (λ added. (sub : BuiltCommand) × (below.entry ≡ Ok sub)
-        × ((app_of sub).top.is_plain ≡ true →
-        app_of added ≡ with_subcommand (app_of command.entry) (app_of sub).top)) }
+        × ((explained (app_of sub)).top.is_plain ≡ true →
+        app_of added ≡ with_subcommand (app_of command.entry) (explained (app_of sub)).top)) }
 {
-    command.subcommand(below?)
+    let below = below?;
+    let words = vec![in alloc; flag_of(alloc, "explain", EXPLAIN)]?;
+    let explained = with_words(below, words)?;
+    command.subcommand(explained)
 }
+
+const EXPLAIN: &str = "If it stops, says where and why in a second line";
 
 fn request_of<'a, T: Threads>(
     rt: &T,
@@ -119,7 +148,7 @@ fn request_of<'a, T: Threads>(
     ensures asked { IfOk result (IsFoundIn matches.now) }
     ensures refused { IfErr result IsOfWords }
 {
-    match request_in(rt, matches) {
+    match request_in(rt, alloc, matches)? {
         Some(request) => Ok(request),
         None => Err(unread(alloc, matches)?),
     }
@@ -129,8 +158,17 @@ fn request_of<'a, T: Threads>(
 fn unread(alloc: Global, matches: &ArgMatches<'_>) -> Result<Fault, AllocError>
     ensures { IfOk result IsOfWords }
 {
-    if let Some(word) = unread_length(matches) {
-        return piece_length_fault(alloc, word);
+    if let Some(word) = unread_length(matches, "make") {
+        return piece_length_fault(alloc, word, "tor make");
+    }
+    if let Some(word) = unread_length(matches, "plan") {
+        return piece_length_fault(alloc, word, "tor plan");
+    }
+    if let Some(text) = unread_lot(matches) {
+        return Fault::usage(alloc, text, "tor make");
+    }
+    if has_no_part(matches) {
+        return Fault::usage(alloc, NO_PART, "tor recheck");
     }
     if let Some(word) = workers_word(matches, "make") {
         return workers_fault(alloc, word, "tor make");
@@ -142,11 +180,43 @@ fn unread(alloc: Global, matches: &ArgMatches<'_>) -> Result<Fault, AllocError>
 }
 
 /// The word for the piece length, if it asks for none.
-fn unread_length<'a>(matches: &ArgMatches<'a>) -> Option<&'a str> {
-    let make = matches.subcommand_matches("make")?;
-    match piece_length_in(make) {
+fn unread_length<'a>(matches: &ArgMatches<'a>, command: &str) -> Option<&'a str> {
+    let words = matches.subcommand_matches(command)?;
+    match piece_length_in(words) {
         Some(_) => None,
-        None => make.get_str("piece-length"),
+        None => words.get_str("piece-length"),
+    }
+}
+
+/// What is wrong with the words for a lot, but for its workers.
+fn unread_lot(matches: &ArgMatches<'_>) -> Option<&'static str> {
+    match lot_of(part_of(matches, "make")?) {
+        Some(_) => streams_word(matches),
+        None => Some(NO_PART),
+    }
+}
+
+const NO_PART: &str =
+    "the value for '--part <K/N>' is no part: K from 0 to N - 1, N at most 65536, as 0/16";
+
+/// Whether the word for the part of a recheck is none.
+fn has_no_part(matches: &ArgMatches<'_>) -> bool {
+    match part_of(matches, "recheck") {
+        Some(part) => lot_of(part).is_none(),
+        None => false,
+    }
+}
+
+/// The word for a part.
+fn part_of<'a>(matches: &ArgMatches<'a>, command: &str) -> Option<&'a str> {
+    matches.subcommand_matches(command)?.get_str("part")
+}
+
+/// That no lot is hashed behind streams.
+fn streams_word(matches: &ArgMatches<'_>) -> Option<&'static str> {
+    match matches.subcommand_matches("make")?.get_str("how")? {
+        "streams" => Some("'--how streams' does not go with '--plan <PLAN>'"),
+        _ => None,
     }
 }
 
@@ -155,11 +225,37 @@ fn workers_word<'a>(matches: &ArgMatches<'a>, command: &str) -> Option<&'a str> 
 }
 
 /// The request of the command that was found; none if `clap` let through words that are none.
-fn request_in<'a, T: Threads>(rt: &T, matches: &ArgMatches<'a>) -> Option<Request<'a>>
+fn request_in<'a, T: Threads>(
+    rt: &T,
+    alloc: Global,
+    matches: &ArgMatches<'a>,
+) -> Result<Option<Request<'a>>, AllocError>
+    ensures { IfOk result (λ request. IfSome request (IsFoundIn matches.now)) }
+{
+    let Some(join) = matches.subcommand_matches("join") else {
+        return Ok(request_of_others(rt, matches));
+    };
+    match join_options(alloc, join)? {
+        Some(options) => Ok(Some(Request::Join(options))),
+        None => Ok(None),
+    }
+}
+
+/// The request of the command that was found, if it takes no list of words.
+fn request_of_others<'a, T: Threads>(rt: &T, matches: &ArgMatches<'a>) -> Option<Request<'a>>
     ensures { IfSome result (IsFoundIn matches.now) }
 {
     if let Some(make) = matches.subcommand_matches("make") {
-        return Some(Request::Make(make_options(rt, make)?));
+        return request_to_make(rt, make, matches);
+    }
+    if let Some(plan) = matches.subcommand_matches("plan") {
+        return Some(Request::Plan(plan_options(plan)?));
+    }
+    if let Some(edit) = matches.subcommand_matches("edit") {
+        return Some(Request::Edit(edit_options(edit)?));
+    }
+    if let Some(scan) = matches.subcommand_matches("scan") {
+        return Some(Request::Scan(scan_options(scan)?));
     }
     if let Some(check) = matches.subcommand_matches("check") {
         return Some(Request::Check(check_options(check)?));
@@ -168,6 +264,21 @@ fn request_in<'a, T: Threads>(rt: &T, matches: &ArgMatches<'a>) -> Option<Reques
         return Some(Request::Magnet(magnet_options(magnet)?));
     }
     request_of_pieces(rt, matches)
+}
+
+/// The request of `make`: of a whole torrent, or of one lot if a plan is named.
+fn request_to_make<'a, T: Threads>(
+    rt: &T,
+    make: &ArgMatches<'a>,
+    matches: &ArgMatches<'a>,
+) -> Option<Request<'a>>
+    requires { subcommand_rows_of matches.now ≡ Some (codes "make", rows_of (found_of make.now)) }
+    ensures { IfSome result (IsFoundIn matches.now) }
+{
+    match make.get_str("plan") {
+        Some(_) => Some(Request::Lot(lot_options(rt, make)?)),
+        None => Some(Request::Make(make_options(rt, make)?)),
+    }
 }
 
 /// The request of the command over pieces that was found; none if `clap` let through words that are none.
@@ -181,9 +292,24 @@ fn request_of_pieces<'a, T: Threads>(rt: &T, matches: &ArgMatches<'a>) -> Option
         return Some(Request::Verify(verify_options(verify)?));
     }
     if let Some(recheck) = matches.subcommand_matches("recheck") {
-        return Some(Request::Recheck(recheck_options(rt, recheck)?));
+        return request_to_recheck(rt, recheck, matches);
     }
     None
+}
+
+/// The request of `recheck`: of a whole torrent, or of one lot of its pieces.
+fn request_to_recheck<'a, T: Threads>(
+    rt: &T,
+    recheck: &ArgMatches<'a>,
+    matches: &ArgMatches<'a>,
+) -> Option<Request<'a>>
+    requires { subcommand_rows_of matches.now ≡ Some (codes "recheck", rows_of (found_of recheck.now)) }
+    ensures { IfSome result (IsFoundIn matches.now) }
+{
+    match recheck.get_str("part") {
+        Some(_) => Some(Request::RecheckLot(lot_recheck_options(rt, recheck)?)),
+        None => Some(Request::Recheck(recheck_options(rt, recheck)?)),
+    }
 }
 
 /// What is wrong with the words, said of them as they are printed. No word that `clap` knows has a byte that is
@@ -216,6 +342,10 @@ fn printed_words(alloc: Global, words: &[&str]) -> Result<Vec<String>, AllocErro
 fn command_of(words: &[&str]) -> &'static str {
     match words {
         [_, "make", ..] => "tor make",
+        [_, "plan", ..] => "tor plan",
+        [_, "join", ..] => "tor join",
+        [_, "edit", ..] => "tor edit",
+        [_, "scan", ..] => "tor scan",
         [_, "check", ..] => "tor check",
         [_, "magnet", ..] => "tor magnet",
         [_, "prove", ..] => "tor prove",

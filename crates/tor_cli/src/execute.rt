@@ -1,9 +1,10 @@
 //! The whole program, over any reader and writers.
 ghost use Rattle.clap.specs.Walk.{texts};
-ghost use Rattle.std.specs.Prelude.{◌≡◌, ℕ, IfErr, IfOk, Ok, OnOk, string_bytes};
+ghost use Rattle.std.specs.Prelude.{◌≡◌, ◌≤◌, ℕ, IfErr, IfOk, IfSome, None, Ok, OnOk, string_bytes};
+ghost use Rattle.tor_explain.specs.Plain.{IsPlainText};
 ghost use Rattle.std.specs.Io.KnownBytes.{Appends};
 ghost use Rattle.tor_meta.specs.FromInput.{IsFront};
-ghost use Rattle.tor_cli.specs.make.Request.{Does, DoesAsked, IsRunOf, Stops, StopsAsked};
+ghost use Rattle.tor_cli.specs.Run.{Does, DoesAsked, IsRunOf, Stops, StopsAsked};
 ghost use Rattle.tor_cli.specs.steps.Ending.{done_of, status_after};
 ghost use Rattle.tor_cli.specs.Streams.{streams};
 ghost use Rattle.tor_cli.specs.declared.answer.Answer.TheVariants.{Yes};
@@ -12,19 +13,27 @@ ghost use Rattle.tor_cli.specs.declared.fault.Fault.TheVariants.{Write as WriteF
 use crate::answer::Answer;
 use crate::check::telling::{Telling, tell_torrent};
 use crate::command::{Request, read_words};
+use crate::edit::command::edit;
+use crate::explain::{asks_why, reason_for_no, reason_of};
 use crate::fault::Fault;
+use crate::lots::join::join;
+use crate::lots::lot::lot;
+use crate::lots::plan::plan;
 use crate::make::command::make;
 use crate::proof::prove::prove;
 use crate::proof::verify::verify;
 use crate::recheck::command::recheck;
+use crate::recheck::lot::recheck_part;
+use crate::scan::command::scan;
 use std::io::{Read, Write};
 use std::sync::Wait;
 use std::thread::Threads;
 use tor_meta::write_out;
 
 /// Does what the words ask for; the first word is the program's name. Answers the status: 0 done, 1 refused or answered
-/// by no, 2 usage, 3 a read or write fault, 4 memory or a thread refused. A fault is one line on `err`. How far the
-/// reading of PATH is, the system's own standard error shows, if it is to be shown.
+/// by no, 2 usage, 3 a read or write fault, 4 memory or a thread refused. A fault is one line on `err`; on a terminal, or
+/// if it is asked for, a second one says where and why. If `shows_progress`, standard error is a terminal, and shows how
+/// far the reading of PATH is.
 pub fn run<T: Threads + Wait + Sync + Send + Clone + Drop + 'static, R: Read, W: Write, E: Write>(
     rt: &T,
     system: &HostRuntime,
@@ -37,11 +46,14 @@ pub fn run<T: Threads + Wait + Sync + Send + Clone + Drop + 'static, R: Read, W:
     ensures { IsRunOf (texts words.entry.now)
         (streams (R.remaining reader.old) (R.remaining reader.new) (W.contents out.old) (W.contents out.new)) result }
 {
-    let outcome = answer(rt, system, words, reader, out, shows_progress);
-    tell(&outcome, err)
+    let mut reason = None;
+    let outcome = answer(rt, system, words, reader, out, shows_progress, &mut reason);
+    let status = tell(&outcome, err);
+    tell_reason(&reason, err);
+    status
 }
 
-/// Does what the words ask for.
+/// Does what the words ask for. If that stops, the reason is told on a terminal, and to whoever asks for it.
 fn answer<T: Threads + Wait + Sync + Send + Clone + Drop + 'static, R: Read, W: Write>(
     rt: &T,
     system: &HostRuntime,
@@ -49,14 +61,32 @@ fn answer<T: Threads + Wait + Sync + Send + Clone + Drop + 'static, R: Read, W: 
     reader: &mut R,
     out: &mut W,
     shows_progress: bool,
+    reason: &mut Option<String>,
 ) -> Result<Answer, Fault>
+    requires { reason.old ≡ None }
+    ensures plain { IfSome reason.new (λ text. IsPlainText (string_bytes text)) }
     ensures done { IfOk result (DoesAsked (texts words.entry.now)
         (streams (R.remaining reader.old) (R.remaining reader.new) (W.contents out.old) (W.contents out.new))) }
     ensures stopped { IfErr result (StopsAsked (texts words.entry.now)
         (streams (R.remaining reader.old) (R.remaining reader.new) (W.contents out.old) (W.contents out.new))) }
 {
     let request = read_words(rt, system.alloc(), words)?;
-    perform(rt, system, &request, reader, out, shows_progress)
+    let explains = shows_progress || asks_why(words);
+    match perform(rt, system, &request, reader, out, shows_progress) {
+        Ok(Answer::Yes) => Ok(Answer::Yes),
+        Ok(Answer::No) => {
+            if explains {
+                *reason = reason_for_no(system, &request);
+            }
+            Ok(Answer::No)
+        }
+        Err(fault) => {
+            if explains {
+                *reason = reason_of(system, &request, &fault);
+            }
+            Err(fault)
+        }
+    }
 }
 
 /// Does what was asked for.
@@ -76,6 +106,11 @@ fn perform<T: Threads + Wait + Sync + Send + Clone + Drop + 'static, R: Read, W:
     match request {
         Request::Show(text) => done(show(text, out)),
         Request::Make(options) => done(make(rt, system, options, reader, out, shows_progress)),
+        Request::Plan(options) => done(plan(system, options, reader, out)),
+        Request::Lot(options) => done(lot(rt, system, options, out, shows_progress)),
+        Request::Join(options) => done(join(system, options, out)),
+        Request::Edit(options) => done(edit(system, options, out)),
+        Request::Scan(options) => scan(system, options, reader, out),
         Request::Check(options) => done(tell_torrent(
             system,
             options.torrent,
@@ -91,6 +126,7 @@ fn perform<T: Threads + Wait + Sync + Send + Clone + Drop + 'static, R: Read, W:
         Request::Prove(options) => done(prove(system, options, out)),
         Request::Verify(options) => verify(system, options, out),
         Request::Recheck(options) => recheck(rt, system, options, out, shows_progress),
+        Request::RecheckLot(options) => recheck_part(rt, system, options, out, shows_progress),
     }
 }
 
@@ -117,6 +153,7 @@ fn done(outcome: Result<(), Fault>) -> Result<Answer, Fault>
 fn tell<E: Write>(outcome: &Result<Answer, Fault>, err: &mut E) -> u8
     ensures value { result ≡ status_after outcome.now }
     ensures done { result ≡ 0 → outcome.now ≡ Ok Yes }
+    ensures within { result ≤ 4 }
 {
     match outcome {
         Ok(answer) => answer.status(),
@@ -125,5 +162,15 @@ fn tell<E: Write>(outcome: &Result<Answer, Fault>, err: &mut E) -> u8
             let _ = writeln!(err, "tor: {fault}");
             fault.status()
         }
+    }
+}
+
+/// Tells why it stopped, in one line.
+fn tell_reason<E: Write>(reason: &Option<String>, err: &mut E)
+    requires { IfSome reason.now (λ text. IsPlainText (string_bytes text)) }
+{
+    if let Some(text) = reason {
+        // Nobody may read this one either.
+        let _ = writeln!(err, "tor: {text}");
     }
 }

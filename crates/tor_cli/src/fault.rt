@@ -1,15 +1,16 @@
 //! What can stop the program: its line on standard error, and its status.
-ghost use Rattle.std.specs.Prelude.{◌≡◌, ◌<◌, IfOk};
+ghost use Rattle.std.specs.Prelude.{◌≡◌, ◌<◌, ◌≤◌, IfOk};
 ghost use Rattle.tor_cli.specs.Status.{status_of, status_of_make, status_of_piece, status_of_recheck};
 ghost use Rattle.tor_cli.specs.Status.{status_of_refusal, status_of_scan};
 ghost use Rattle.tor_cli.specs.Words.{IsUsage};
 
 use crate::proof::claim::ArgumentFault;
+use crate::unwritten::Unwritten;
 use std::alloc::{AllocError, Global};
 use std::{fmt, io};
 use tor_check::{ProveError, Refusal};
 use tor_engine::EngineError;
-use tor_meta::MakeError;
+use tor_meta::{JoinError, MakeError, PlanError};
 use tor_recheck::RecheckError;
 use tor_source::ScanFault;
 use tor_tree::NameError;
@@ -19,7 +20,7 @@ use tor_tree::NameError;
 pub enum Fault {
     /// The words ask for nothing that there is: the line.
     Usage(String),
-    /// The word for the name is none.
+    /// The word for the name is none, or a name in the list of `--files-from`.
     Name(NameError),
     /// What the words name is no file, and no folder whose files make a list.
     Scan(ScanFault),
@@ -31,17 +32,21 @@ pub enum Fault {
     Piece(ProveError),
     /// A file of the torrent was not read, or did not stay as long as it was told to be.
     Recheck(RecheckError<io::Error>),
+    /// What FILE has is no plan, or one of which no torrent is made.
+    Plan(PlanError),
+    /// No torrent is joined of a plan and parts; the place of the part that it is for.
+    Join(JoinError, String),
     /// The files do not have each piece of the torrent that was made of them: so many have, of so many.
     NotAsMade { good: u64, pieces: u64 },
     /// The file of `--out` is one of those that the torrent would be made of.
     OutAmongFiles,
-    /// An argument of `verify`, or `--attrs` of `make`, is none of its kind.
+    /// An argument of `verify`, or the file of `--attrs` or `--files-from`, is none of its kind.
     Argument(ArgumentFault),
     /// Standard input, or a FILE, was not read whole.
     Read,
     TooLong,
-    /// This many bytes went out.
-    Write(u64),
+    /// So many bytes went out.
+    Write(Unwritten),
     /// Memory, or a thread that is needed, was refused.
     Resources,
 }
@@ -60,6 +65,7 @@ impl Fault {
     pub fn status(&self) -> u8
         ensures value { result ≡ status_of self.now }
         ensures positive { 0 < result }
+        ensures within { result ≤ 4 }
     {
         match self {
             Fault::Usage(_) => 2,
@@ -69,6 +75,7 @@ impl Fault {
             Fault::Refused(refusal) => status_of_refusal(refusal),
             Fault::Piece(error) => status_of_piece(error),
             Fault::Recheck(error) => status_of_recheck(error),
+            Fault::Plan(_) | Fault::Join(..) => 1,
             Fault::NotAsMade { .. } | Fault::OutAmongFiles => 1,
             Fault::Argument(_) => 1,
             Fault::Read | Fault::TooLong | Fault::Write(_) => 3,
@@ -99,6 +106,7 @@ fn in_one_line(alloc: Global, paragraph: &str) -> Result<String, AllocError> {
 fn status_of_scan(fault: &ScanFault) -> u8
     ensures value { result ≡ status_of_scan fault.now }
     ensures positive { 0 < result }
+    ensures within { result ≤ 4 }
 {
     match fault {
         ScanFault::NotUtf8 | ScanFault::NotRegular | ScanFault::TooDeep => 1,
@@ -110,6 +118,7 @@ fn status_of_scan(fault: &ScanFault) -> u8
 fn status_of_make(error: &MakeError<io::Error>) -> u8
     ensures value { result ≡ status_of_make error.now }
     ensures positive { 0 < result }
+    ensures within { result ≤ 4 }
 {
     match error {
         MakeError::Hashing(EngineError::Resources) => 4,
@@ -121,6 +130,7 @@ fn status_of_make(error: &MakeError<io::Error>) -> u8
 fn status_of_refusal(refusal: &Refusal) -> u8
     ensures value { result ≡ status_of_refusal refusal.now }
     ensures positive { 0 < result }
+    ensures within { result ≤ 4 }
 {
     match refusal {
         Refusal::Memory => 4,
@@ -131,6 +141,7 @@ fn status_of_refusal(refusal: &Refusal) -> u8
 fn status_of_piece(error: &ProveError) -> u8
     ensures value { result ≡ status_of_piece error.now }
     ensures positive { 0 < result }
+    ensures within { result ≤ 4 }
 {
     match error {
         ProveError::Memory => 4,
@@ -141,6 +152,7 @@ fn status_of_piece(error: &ProveError) -> u8
 fn status_of_recheck(error: &RecheckError<io::Error>) -> u8
     ensures value { result ≡ status_of_recheck error.now }
     ensures positive { 0 < result }
+    ensures within { result ≤ 4 }
 {
     match error {
         RecheckError::Read { .. } | RecheckError::Changed { .. } => 3,
@@ -159,6 +171,8 @@ impl fmt::Display for Fault {
             Fault::Refused(refusal) => write!(f, "{refusal}"),
             Fault::Piece(error) => write!(f, "{error}"),
             Fault::Recheck(error) => write_recheck_error(error, f),
+            Fault::Plan(error) => write_plan_error(error, f),
+            Fault::Join(error, part) => write_join_error(error, part, f),
             Fault::NotAsMade { good, pieces } => {
                 write!(f, "not as made: {good} of {pieces} pieces")
             }
@@ -166,7 +180,7 @@ impl fmt::Display for Fault {
             Fault::Argument(fault) => write!(f, "{fault}"),
             Fault::Read => f.write_str("read fault"),
             Fault::TooLong => f.write_str("input too long"),
-            Fault::Write(written) => write!(f, "write fault after {written} bytes"),
+            Fault::Write(stop) => write!(f, "write fault after {} bytes", stop.written()),
             Fault::Resources => f.write_str("out of resources"),
         }
     }
@@ -220,5 +234,56 @@ fn write_read_error<E: fmt::Display, W: fmt::Write>(
     match start {
         Some(start) => write!(f, "{error} file {file} at {start}"),
         None => write!(f, "{error} file {file} at length"),
+    }
+}
+
+/// That the bytes are no plan, and if they are one the refusal for which no torrent is made of it.
+fn write_plan_error<W: fmt::Write>(error: &PlanError, f: &mut fmt::Formatter<W>) -> fmt::Result {
+    match error {
+        PlanError::Refused(refusal) => write!(f, "J1 Plan {refusal}"),
+        _ => f.write_str("J1 Plan"),
+    }
+}
+
+/// The code and the name, and the part that it is for, or the numbers of all that are missing.
+fn write_join_error<W: fmt::Write>(
+    error: &JoinError,
+    part: &str,
+    f: &mut fmt::Formatter<W>,
+) -> fmt::Result {
+    match error {
+        JoinError::Plan(error) => write_plan_error(error, f),
+        JoinError::Missing { lots } => {
+            f.write_str("J7 Missing ")?;
+            write_runs(lots, f)
+        }
+        other => write!(f, "{other} {part}"),
+    }
+}
+
+/// Numbers that rise, as an array job takes them: those that follow one another as one run, `40-44`.
+fn write_runs<W: fmt::Write>(numbers: &[u32], f: &mut fmt::Formatter<W>) -> fmt::Result {
+    let mut begun: Option<(u32, u32)> = None;
+    'numbers: for number in numbers {
+        begun = match begun {
+            Some((first, last)) if last.checked_add(1) == Some(*number) => Some((first, *number)),
+            Some(run) => {
+                write_run(run, f)?;
+                f.write_str(",")?;
+                Some((*number, *number))
+            }
+            None => Some((*number, *number)),
+        };
+    }
+    match begun {
+        Some(run) => write_run(run, f),
+        None => Ok(()),
+    }
+}
+
+fn write_run<W: fmt::Write>(run: (u32, u32), f: &mut fmt::Formatter<W>) -> fmt::Result {
+    match run {
+        (first, last) if first == last => write!(f, "{first}"),
+        (first, last) => write!(f, "{first}-{last}"),
     }
 }

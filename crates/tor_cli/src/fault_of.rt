@@ -1,19 +1,23 @@
 //! Which fault of the program a step's fault is.
 ghost use Rattle.std.specs.Prelude.{◌≡◌};
 ghost use Rattle.tor_cli.specs.Status.{of_input_fault, of_make_error, of_name_error, of_piece_error, of_recheck_error};
-ghost use Rattle.tor_cli.specs.Status.{of_refusal, of_scan_fault, of_step_fault};
+ghost use Rattle.tor_cli.specs.Status.{of_list_error, of_paths_fault, of_plan_error, of_refusal, of_scan_fault};
+ghost use Rattle.tor_cli.specs.Status.{of_report_fault, of_step_fault};
 ghost use Rattle.tor_cli.specs.declared.fault.Fault.TheVariants.{Argument, Write, Resources};
 
 use crate::fault::Fault;
+use crate::make::paths_text::PathsFault;
 use crate::proof::claim::ArgumentFault;
+use crate::unwritten::Unwritten;
 use std::alloc::{AllocError, AllocFailed};
 use std::io;
 use tor_check::{ProveError, Refusal};
 use tor_engine::EngineError;
-use tor_meta::{FromFault, MakeError, WriteFault};
+use tor_meta::{FromFault, MakeError, PlanError, WriteFault};
 use tor_recheck::RecheckError;
+use tor_report::ReportFault;
 use tor_source::{InputFault, ScanFault};
-use tor_tree::NameError;
+use tor_tree::{ListError, NameError};
 
 impl From<InputFault> for Fault {
     ghost from_gives = { λ fault e. e ≡ of_input_fault fault };
@@ -82,6 +86,17 @@ impl From<ProveError> for Fault {
     }
 }
 
+impl From<PlanError> for Fault {
+    ghost from_gives = { λ error e. e ≡ of_plan_error error };
+
+    fn from(error: PlanError) -> Fault {
+        match error {
+            PlanError::Memory => Fault::Resources,
+            error => Fault::Plan(error),
+        }
+    }
+}
+
 impl From<RecheckError<io::Error>> for Fault {
     ghost from_gives = { λ error e. e ≡ of_recheck_error error };
 
@@ -101,6 +116,29 @@ impl From<ArgumentFault> for Fault {
     }
 }
 
+impl From<PathsFault> for Fault {
+    ghost from_gives = { λ fault e. e ≡ of_paths_fault fault };
+
+    fn from(fault: PathsFault) -> Fault {
+        match fault {
+            PathsFault::Name(fault) => Fault::Name(fault),
+            PathsFault::Unended => Fault::Argument(ArgumentFault::Files),
+            PathsFault::Memory => Fault::Resources,
+        }
+    }
+}
+
+impl From<ListError> for Fault {
+    ghost from_gives = { λ fault e. e ≡ of_list_error fault };
+
+    fn from(fault: ListError) -> Fault {
+        match fault {
+            ListError::Memory => Fault::Resources,
+            fault => Fault::Make(MakeError::List(fault)),
+        }
+    }
+}
+
 impl From<FromFault> for Fault {
     ghost from_gives = { λ fault e. e ≡ of_step_fault fault };
 
@@ -117,7 +155,18 @@ impl From<WriteFault> for Fault {
     ghost from_gives = { λ fault e. e ≡ Write fault.written };
 
     fn from(fault: WriteFault) -> Fault {
-        Fault::Write(fault.written)
+        Fault::Write(Unwritten::of(fault))
+    }
+}
+
+impl From<ReportFault> for Fault {
+    ghost from_gives = { λ fault e. e ≡ of_report_fault fault };
+
+    fn from(fault: ReportFault) -> Fault {
+        match fault {
+            ReportFault::Memory => Fault::Resources,
+            ReportFault::Write(fault) => Fault::from(fault),
+        }
     }
 }
 

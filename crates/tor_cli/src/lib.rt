@@ -2,30 +2,39 @@
 //! describe. The crate `tor` hands it the words of the command line and the real streams.
 //!
 //! - `execute.rt`: the whole program. `command.rt`: what the words ask for; `workers.rt`: by how many workers.
-//! - `make.rt`: the command `make`; `check.rt`: `check` and `magnet`; `recheck.rt`: `recheck`; `proof.rt`: `prove` and
-//!   `verify`. Each has a folder of its name, and tells what stands there.
-//! - `foreign.rt`: the torrent in a file, judged; `torrent_words.rt`: the word that names it. `answer.rt`: yes and no.
+//! - `make.rt`: the command `make`; `scan.rt`: `scan`; `check.rt`: `check` and `magnet`; `recheck.rt`: `recheck`;
+//!   `proof.rt`: `prove` and `verify`. Each has a folder of its name, and tells what stands there.
+//! - `edit.rt`: `edit`; `lots.rt`: `plan`, `join`, and `make --plan`.
+//! - `foreign.rt`: the bytes of a file; `whole_file.rt`: a file that appears whole or not at all; `torrent_words.rt`:
+//!   words that several commands have. `answer.rt`: yes and no.
 //! - `progress.rt`: how far the reading is, shown on a terminal.
 //! - `text.rt`: numbers, hashes, JSON and the user's text as texts.
-//! - `fault.rt`: what stops the program, its line and its status; `fault_of.rt`: which step's fault it is. `laws.rt`:
-//!   that such a line has no control byte.
+//! - `fault.rt`: what stops the program, its line and its status; `fault_of.rt`: which step's fault it is;
+//!   `unwritten.rt`: that not all went out. `laws.rt`: that such a line has no control byte.
+//! - `explain.rt`: why the program stopped, in words.
 //! - [`read_limited`], [`make_from`] are those of `tor_source` and `tor_meta`: what a reader has, and its torrent.
 #![tactic(auto)]
 
 mod answer;
 mod check;
 mod command;
+mod edit;
 pub mod execute;
+mod explain;
 pub mod fault;
 mod fault_of;
 mod foreign;
 pub mod laws;
+mod lots;
 pub mod make;
 pub mod progress;
 pub mod proof;
 pub mod recheck;
+pub mod scan;
 mod text;
 mod torrent_words;
+pub mod unwritten;
+mod whole_file;
 mod workers;
 
 pub use tor_meta::{FromFault, make_from};

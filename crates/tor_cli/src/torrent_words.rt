@@ -1,7 +1,7 @@
 //! Words of which several commands have some.
 ghost use Rattle.clap.specs.Words.{Rule, app_of, new_app, rule_of};
-ghost use Rattle.std.specs.Prelude.{◌≡◌, ◌∷◌, [], IfOk, List, codes, false};
-ghost use Rattle.tor_cli.specs.CommandLine.{argument_of, flag_bound, flag_of, option_of, with_rules};
+ghost use Rattle.std.specs.Prelude.{◌≡◌, ◌∷◌, ◌++◌, [], IfOk, List, codes, false, map};
+ghost use Rattle.tor_cli.specs.CommandLine.{argument_of, bound, flag_bound, flag_of, option_of, with_rules};
 ghost use Rattle.tor_cli.specs.CommandLine.{workers_option};
 ghost use Rattle.tor_cli.specs.steps.Bound.{shut_out_by, wanted_by};
 ghost use Rattle.tor_cli.specs.steps.Rules.{HaveRules};
@@ -73,8 +73,24 @@ pub fn flag_beside<'a>(
     flag_of(alloc, name, help).requires_arg(other)
 }
 
+/// An option with one value that stands beside another argument alone.
+pub fn option_beside<'a>(
+    alloc: Global,
+    name: &'a str,
+    other: &'a str,
+    shown: &'a str,
+    help: &'a str,
+) -> Result<Arg<'a>, AllocError>
+    ensures rule { IfOk result (λ option. rule_of option ≡ bound (option_of name.now)) }
+    ensures local { IfOk result (λ option. option.global ≡ false) }
+    ensures other { IfOk result (λ option. wanted_by option ≡ other.now ∷ []) }
+    ensures none { IfOk result (λ option. shut_out_by option ≡ []) }
+{
+    option_of(alloc, name, shown, help).requires_arg(other)
+}
+
 /// An option without a value that does not stand beside another one.
-fn flag_without<'a>(
+pub fn flag_without<'a>(
     alloc: Global,
     name: &'a str,
     other: &'a str,
@@ -85,6 +101,21 @@ fn flag_without<'a>(
     ensures other { IfOk result (λ flag. shut_out_by flag ≡ other.now ∷ []) }
 {
     flag_of(alloc, name, help).conflicts_with(other)
+}
+
+/// An argument that is not free already, and does not stand beside these either.
+pub fn not_beside<'a>(arg: Arg<'a>, others: &[&'static str]) -> Result<Arg<'a>, AllocError>
+    ensures rule { (rule : Rule) → rule_of arg.entry ≡ bound rule → IfOk result (λ arg. rule_of arg ≡ bound rule) }
+    ensures local { arg.entry.global ≡ false → IfOk result (λ arg. arg.global ≡ false) }
+    ensures others { IfOk result (λ found. shut_out_by found
+        ≡ shut_out_by arg.entry ++ map (λ other. other.now) others.now) }
+    ensures wanted { IfOk result (λ found. wanted_by found ≡ wanted_by arg.entry) }
+{
+    let mut arg = arg;
+    'others: for other in others {
+        arg = arg.conflicts_with(other)?;
+    }
+    Ok(arg)
 }
 
 /// The option that asks for JSON.

@@ -5,7 +5,7 @@ use Rattle.tor_tree.specs.FileList.{paths_of, paths_repeat}
 use Rattle.tor_tree.specs.Name.{has_byte}
 use Rattle.tor_tree.specs.Path.{IsFilePath}
 use Rattle.tor_tree.specs.Letters.{letters}
-use Rattle.tor_cli.specs.check.Shown.{path_text}
+use Rattle.tor_report.specs.Shown.{path_text}
 use Rattle.tor_tree.specs.declared.attr.Attr.{Attr}
 
 -- the line of a file: its letters, and its path

@@ -2,7 +2,6 @@
 use Rattle.std.specs.Prelude.{◌≡◌, ◌⊎◌, ◌<◌, ◌≤◌, ◌≢◌, ◌∷◌, [], ℕ, Bool, List, length, true, option_map, Option, None}
 use Rattle.std.specs.Prelude.{Some, IsSome, IfErr, IfOk, OnOk, Result, Vec}
 use Rattle.std.specs.declared.alloc.Global.{Global}
-use Rattle.std.specs.Prelude.{string_bytes}
 use Rattle.std.specs.Io.KnownBytes.{Appends, Keeps}
 use Rattle.std.specs.declared.io.Error.{Error}
 use Rattle.tor_sums.specs.How.{workers_of}
@@ -17,30 +16,21 @@ use Rattle.tor_tree.specs.FileList.{paths_of}
 use Rattle.tor_tree.specs.Name.{name_fault}
 use Rattle.tor_tree.specs.declared.attr.Attr.{Attr}
 use Rattle.tor_cli.specs.make.CheckAfter.{IsAsMade, IsNotAsMade}
-use Rattle.tor_cli.specs.Foreign.{DoesTell, StopsTelling}
 use Rattle.tor_source.specs.Input.{ReadsAll, ReadsSome, EndsInput}
 use Rattle.tor_meta.specs.FromInput.{IsFront, MakesOf}
 use Rattle.tor_cli.specs.make.Attrs.{HaveLetters, IsNotLettered}
-use Rattle.tor_cli.specs.Place.{AreFound, IsGivenBy, IsNotFound, refusal_by}
-use Rattle.tor_cli.specs.proof.Proving.{DoesProve, DoesVerify, StopsProving, StopsVerifying}
-use Rattle.tor_cli.specs.recheck.Recheck.{DoesRecheck, StopsRechecking}
-use Rattle.tor_cli.specs.Status.{status_of}
+use Rattle.tor_cli.specs.Place.{AreFilesAt, IsChosenMissing, IsGivenBy, IsNotFound, refusal_by}
+use Rattle.tor_cli.specs.make.ChosenFiles.{IsChoice, IsNoChoice}
 use Rattle.tor_cli.specs.Streams.{IsUntouched, Streams}
-use Rattle.tor_cli.specs.check.Telling.{lines_of}
-use Rattle.tor_cli.specs.Words.{Asks, IsOfWords, how_of, length_for}
+use Rattle.tor_cli.specs.Words.{how_of, length_for}
 use Rattle.tor_source.specs.declared.input.TheConstants.{MAX_INPUT_LENGTH}
 use Rattle.tor_source.specs.declared.input.InputFault.{InputFault}
 use Rattle.tor_source.specs.declared.input.InputFault.TheVariants as inputs
 use Rattle.tor_cli.specs.declared.make.options.MakeOptions.{MakeOptions}
-use Rattle.tor_cli.specs.declared.command.Request.{Request}
-use Rattle.tor_cli.specs.declared.answer.Answer.{Answer}
-use Rattle.tor_cli.specs.declared.answer.Answer.TheVariants.{Yes, No}
-use Rattle.tor_cli.specs.declared.command.Request.TheVariants.{Show, Make as ToMake, Check, Magnet, Prove, Verify}
-use Rattle.tor_cli.specs.declared.command.Request.TheVariants.{Recheck as ToRecheck}
-use Rattle.tor_cli.specs.declared.check.telling.Telling.TheVariants.{Link}
 use Rattle.tor_cli.specs.declared.fault.Fault.{Fault}
 use Rattle.tor_cli.specs.declared.fault.Fault.TheVariants.{Usage, Name, Scan, Make, Refused, Piece, Recheck, Argument}
 use Rattle.tor_cli.specs.declared.fault.Fault.TheVariants.{NotAsMade, OutAmongFiles, Read, TooLong, Write, Resources}
+use Rattle.tor_cli.specs.declared.fault.Fault.TheVariants.{Plan as PlanFault, Join as JoinFault}
 
 -- the settings that the options ask for, of pieces of so many bytes. They are of one file or of a folder (profile)
 abbrev pub settings_of_options : MakeOptions → Bool → ℕ → Settings
@@ -118,6 +108,8 @@ StopsInput options s (Scan fault) = ⊥
 StopsInput options s (Refused refusal) = ⊥
 StopsInput options s (Piece error) = ⊥
 StopsInput options s (Recheck error) = ⊥
+StopsInput options s (PlanFault error) = ⊥
+StopsInput options s (JoinFault error part) = ⊥
 StopsInput options s (NotAsMade good pieces) = ⊥
 StopsInput options s OutAmongFiles = ⊥
 StopsInput options s (Argument fault) = FailsAttrs options (Argument fault) s
@@ -131,17 +123,20 @@ StopsInput options s (Write written) = (order : Order) × (attr : Attr) × IsOrd
     (SendsFront (file_of options) s.writer s.writer' written) content)
 StopsInput options s Resources = FailsInput inputs.Memory s
 
--- the order that the options ask for, and the paths of the files at their place, each with its letters
-pub record IsOrderOf (options : MakeOptions) (order : Order) (files : List (List (List ℕ) × Attr)) : Type 0 where
+-- the order that the options ask for, and the paths of the files at their place, each with its letters. A list may have
+-- chosen the files
+pub record IsOrderOf (options : MakeOptions) (chosen : Option (List (List (List ℕ)))) (order : Order)
+    (files : List (List (List ℕ) × Attr)) : Type 0 where
   pub name : name_fault options.name.now ≡ None
   pub ordered : IsOrder options order.single order
-  pub found : AreFound options.name.now order.single (paths_of files)
+  pub found : AreFilesAt options.name.now chosen order.single (paths_of files)
   pub lettered : HaveLetters (attrs_of options) files
 
 -- the bytes are a torrent as asked for, of some files as found. It is that of the order that the options ask for, which
 -- is not refused for the files' paths, and of some files that have those paths and the letters (profile)
-abbrev pub IsTorrentAt : MakeOptions → List ℕ → Type 0
-IsTorrentAt options torrent = (order : Order) × (files : List (List (List ℕ) × Attr)) × IsOrderOf options order files
+abbrev pub IsTorrentAt : MakeOptions → Option (List (List (List ℕ))) → List ℕ → Type 0
+IsTorrentAt options chosen torrent = (order : Order) × (files : List (List (List ℕ) × Attr))
+    × IsOrderOf options chosen order files
     × (refusal_by options.way order (paths_of files) ≡ None) × IsMadeOfSome (settings_of_order order) files torrent
 
 -- if there is a refusal, no fault of a file stops it before that (profile)
@@ -160,44 +155,69 @@ pub record IsMadeOfFound (first : Option (MakeError Error)) (may_tell : MakeErro
   pub gave : IfErr result may_tell
 
 -- why there is no torrent of the files at a place
-abbrev pub StopsFinding : MakeOptions → Fault → Type 0
-StopsFinding options (Name fault) = name_fault options.name.now ≡ Some fault
-StopsFinding options (Make error) = (order : Order) × (files : List (List (List ℕ) × Attr))
-    × IsOrderOf options order files × IsOwn (refusal_by options.way order (paths_of files)) error
+abbrev pub StopsFinding : MakeOptions → Option (List (List (List ℕ))) → Fault → Type 0
+StopsFinding options chosen (Name fault) = name_fault options.name.now ≡ Some fault
+StopsFinding options chosen (Make error) =
+    ((name_fault options.name.now ≡ None) × IsChosenMissing chosen error)
+    ⊎ ((order : Order) × (files : List (List (List ℕ) × Attr))
+    × IsOrderOf options chosen order files × IsOwn (refusal_by options.way order (paths_of files)) error
     × IsRefusedFirst (refusal_by options.way order (paths_of files)) error
-    × IsGivenBy options.way (length files) error × (error ≢ out_of_resources)
--- which file is at a place no contract says
-StopsFinding options OutAmongFiles = (name_fault options.name.now ≡ None) × IsSome (file_of options)
-    × ((single : Bool) × (files : List (List (List ℕ) × Attr)) × AreFound options.name.now single (paths_of files)
-    × HaveLetters (attrs_of options) files)
-StopsFinding options Resources = Unit {0}
-StopsFinding options fault =
-    (name_fault options.name.now ≡ None) × IsNotFound options.name.now (attrs_of options) fault
+    × IsGivenBy options.way (length files) error × (error ≢ out_of_resources))
+-- which file is at a place, and whether it can be written, no contract says
+StopsFinding options chosen OutAmongFiles = (name_fault options.name.now ≡ None) × IsSome (file_of options)
+    × ((single : Bool) × (files : List (List (List ℕ) × Attr))
+    × AreFilesAt options.name.now chosen single (paths_of files) × HaveLetters (attrs_of options) files)
+StopsFinding options chosen (Write written) = (written ≡ 0) × (name_fault options.name.now ≡ None)
+    × IsSome (file_of options) × ((single : Bool) × (files : List (List (List ℕ) × Attr))
+    × AreFilesAt options.name.now chosen single (paths_of files) × HaveLetters (attrs_of options) files)
+StopsFinding options chosen Resources = Unit {0}
+StopsFinding options chosen fault =
+    (name_fault options.name.now ≡ None) × IsNotFound options.name.now chosen (attrs_of options) fault
 
 -- bytes of such a torrent that may go out. If that is asked for, each of its pieces was found there and right
 -- afterwards (profile)
-abbrev pub IsTorrentToSend : MakeOptions → List ℕ → Type 0
-IsTorrentToSend options torrent = IsTorrentAt options torrent
+abbrev pub IsTorrentToSend : MakeOptions → Option (List (List (List ℕ))) → List ℕ → Type 0
+IsTorrentToSend options chosen torrent = IsTorrentAt options chosen torrent
     × (options.check_after ≡ true → IsAsMade torrent)
 
 -- why none go out. There are none; or they were asked for their pieces, and not all were found (profile)
-abbrev pub StopsSending : MakeOptions → Fault → Type 0
-StopsSending options fault = StopsFinding options fault
-    ⊎ ((options.check_after ≡ true) × ((torrent : List ℕ) × IsTorrentAt options torrent
+abbrev pub StopsSending : MakeOptions → Option (List (List (List ℕ))) → Fault → Type 0
+StopsSending options chosen fault = StopsFinding options chosen fault
+    ⊎ ((options.check_after ≡ true) × ((torrent : List ℕ) × IsTorrentAt options chosen torrent
     × IsNotAsMade (workers_of (how_of options.way)) torrent fault))
 
 -- what is written if PATH has the files. A torrent was made of the files at a place, of which no contract says what
 -- they hold (profile)
-abbrev pub DoesPlace : MakeOptions → Streams → Type 0
-DoesPlace options s = (s.reader' ≡ s.reader)
-    × ((torrent : List ℕ) × IsTorrentToSend options torrent × Sends (file_of options) s.writer s.writer' torrent)
+abbrev pub DoesFiles : MakeOptions → Option (List (List (List ℕ))) → Streams → Type 0
+DoesFiles options chosen s = (s.reader' ≡ s.reader)
+    × ((torrent : List ℕ) × IsTorrentToSend options chosen torrent × Sends (file_of options) s.writer s.writer' torrent)
 
--- if this fault stopped that (profile)
+-- if this fault stopped that. Nothing was written, or a front of a torrent (profile)
+abbrev pub StopsFiles : MakeOptions → Option (List (List (List ℕ))) → Streams → Fault → Type 0
+StopsFiles options chosen s (Write written) = (StopsSending options chosen (Write written) × IsUntouched s)
+    ⊎ ((s.reader' ≡ s.reader) × ((torrent : List ℕ) × IsTorrentToSend options chosen torrent
+    × SendsFront (file_of options) s.writer s.writer' written torrent))
+StopsFiles options chosen s fault = StopsSending options chosen fault × IsUntouched s
+
+-- the word for the list that chooses files, if there is one
+abbrev pub list_of : MakeOptions → Option (List ℕ)
+list_of options = option_map (λ word. word.now) options.list
+
+-- the streams, once the reader has given what it has now
+abbrev pub read_before : Streams → Streams
+read_before s = record s { reader = s.reader' }
+
+-- what is read and written if PATH has the files. If a list chooses them, it was read before (profile)
+abbrev pub DoesPlace : MakeOptions → Streams → Type 0
+DoesPlace options s = (chosen : Option (List (List (List ℕ))))
+    × IsChoice (list_of options) s.reader s.reader' chosen × DoesFiles options chosen (read_before s)
+
+-- if this fault stopped that: it is of the list, or came after it (profile)
 abbrev pub StopsPlace : MakeOptions → Streams → Fault → Type 0
-StopsPlace options s (Write written) = (s.reader' ≡ s.reader)
-    × ((torrent : List ℕ) × IsTorrentToSend options torrent
-    × SendsFront (file_of options) s.writer s.writer' written torrent)
-StopsPlace options s fault = StopsSending options fault × IsUntouched s
+StopsPlace options s fault =
+    (IsNoChoice (list_of options) s.reader s.reader' fault × (s.writer' ≡ s.writer))
+    ⊎ ((chosen : Option (List (List (List ℕ)))) × IsChoice (list_of options) s.reader s.reader' chosen
+    × StopsFiles options chosen (read_before s) fault)
 
 -- of the reader, or of the files at a place
 abbrev pub DoesFrom : Option (List ℕ) → MakeOptions → Streams → Type 0
@@ -213,52 +233,3 @@ DoesMake options s = DoesFrom (option_map (λ place. place.now) options.place) o
 
 abbrev pub StopsMake : MakeOptions → Streams → Fault → Type 0
 StopsMake options s fault = StopsFrom (option_map (λ place. place.now) options.place) options s fault
-
--- what was asked for was done
-abbrev pub IsDone : Request → Streams → Type 0
-IsDone (Show text) s = (s.reader' ≡ s.reader) × Appends s.writer s.writer' (string_bytes text)
-IsDone (ToMake options) s = DoesMake options s
-IsDone (Check options) s = DoesTell (lines_of options.telling) s
-IsDone (Magnet options) s = DoesTell (lines_of (Link options.words)) s
-IsDone (Prove options) s = DoesProve options s
-IsDone (Verify options) s = DoesVerify options Yes s
-IsDone (ToRecheck options) s = DoesRecheck options Yes s
-
--- what is read and written for a request, with this answer. Only a question is ever answered by no (profile)
-abbrev pub Does : Request → Answer → Streams → Type 0
-Does request Yes s = IsDone request s
-Does (Verify options) No s = DoesVerify options No s
-Does (ToRecheck options) No s = DoesRecheck options No s
-Does request No s = ⊥
-
--- if this fault stopped it (profile)
-abbrev pub Stops : Request → Streams → Fault → Type 0
-Stops (Show text) s (Write written) =
-    (s.reader' ≡ s.reader) × IsFront s.writer s.writer' written (string_bytes text)
-Stops (Show text) s other = ⊥
-Stops (ToMake options) s fault = StopsMake options s fault
-Stops (Check options) s fault = StopsTelling (lines_of options.telling) s fault
-Stops (Magnet options) s fault = StopsTelling (lines_of (Link options.words)) s fault
-Stops (Prove options) s fault = StopsProving options s fault
-Stops (Verify options) s fault = StopsVerifying options s fault
-Stops (ToRecheck options) s fault = StopsRechecking options s fault
-
--- what the words ask for was done with this answer
-abbrev pub DoesAsked : List (List ℕ) → Streams → Answer → Type 0
-DoesAsked words s answer = (request : Request) × Asks words request × Does request answer s
-
--- this fault is of the words, or what they ask for was stopped at it
-abbrev pub StopsAsked : List (List ℕ) → Streams → Fault → Type 0
-StopsAsked words s fault =
-    (IsOfWords fault × IsUntouched s) ⊎ ((request : Request) × Asks words request × Stops request s fault)
-
--- why the status is not 0: the answer is no, or a fault stopped it
-abbrev pub EndsAsked : List (List ℕ) → Streams → ℕ → Type 0
-EndsAsked words s status = ((status ≡ 1) × DoesAsked words s No)
-    ⊎ ((fault : Fault) × (status ≡ status_of fault) × StopsAsked words s fault)
-
--- what a run over these words did, which ended with this status
-pub record IsRunOf (words : List (List ℕ)) (s : Streams) (status : ℕ) : Type 0 where
-  pub within : status ≤ 4
-  pub done : status ≡ 0 → DoesAsked words s Yes
-  pub stopped : status ≢ 0 → EndsAsked words s status

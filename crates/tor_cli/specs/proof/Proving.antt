@@ -97,6 +97,7 @@ IsBadClaim options arguments.PieceLength =
     × OfNone (IsPieceLengthText options.piece_length.now)
 IsBadClaim options arguments.Proof = ⊥
 IsBadClaim options arguments.Attrs = ⊥
+IsBadClaim options arguments.Files = ⊥
 
 -- the answer to a proof
 abbrev pub holds_in : Claim → ℕ → List ℕ → List (List ℕ) → Bool

@@ -1,14 +1,14 @@
 -- What is printed of the files of a torrent after a recheck.
-use Rattle.std.specs.Prelude.{ℕ, Bool, true, false, List, [], ◌++◌, flat_map, decimal, codes, Option, None, Some}
+use Rattle.std.specs.Prelude.{ℕ, Bool, nat_lt, length, slice_index_or, slice_set, true, false, List, [], ◌∷◌, ◌++◌, flat_map, decimal, codes, Option, None, Some}
 use Rattle.std.specs.Prelude.{if◌then◌else◌}
 use Rattle.std.specs.List.{zip}
 use Rattle.tor_recheck.specs.declared.files.FileFound.{FileFound}
 use Rattle.tor_recheck.specs.declared.files.FileState.{FileState}
-use Rattle.tor_recheck.specs.declared.files.FileState.TheVariants.{Missing, Short, Bad, Whole}
+use Rattle.tor_recheck.specs.declared.files.FileState.TheVariants.{Missing, Short, Bad, Whole, Unreadable, Link}
 use Rattle.tor_spec.specs.valid.View.{FileView}
 use Rattle.tor_tree.specs.declared.tree_file.TreeFile.{TreeFile}
-use Rattle.tor_cli.specs.text.Escape.{escaped}
-use Rattle.tor_cli.specs.check.Shown.{ended_path, path_text}
+use Rattle.tor_report.specs.Escape.{escaped}
+use Rattle.tor_report.specs.Shown.{ended_path, path_text}
 use Rattle.tor_cli.specs.declared.recheck.listing.Listing.{Listing}
 use Rattle.tor_cli.specs.declared.recheck.listing.Listing.TheVariants.{Pieces, Files, BadFiles, BadPaths}
 
@@ -18,6 +18,23 @@ state_word Missing = codes "missing"
 state_word Short = codes "short"
 state_word Bad = codes "bad"
 state_word Whole = codes "whole"
+state_word Unreadable = codes "unreadable"
+state_word Link = codes "link"
+
+-- what is told of a file of which nothing is told
+abbrev pub nothing_told : FileFound
+nothing_told = record { state = Missing; good = 0; pieces = 0; there = None; told = 0 }
+
+-- what is told of files, if the one of this number has a state that its pieces do not tell
+abbrev pub state_at : FileState → ℕ → List FileFound → List FileFound
+state_at state file found =
+    if nat_lt file (length found)
+    then slice_set found file (record (slice_index_or found file nothing_told) { state = state }) else found
+
+-- what is told of files, of which those of these numbers have this state (profile)
+abbrev pub with_state : FileState → List ℕ → List FileFound → List FileFound
+with_state state [] found = found
+with_state state (file ∷ files) found = with_state state files (state_at state file found)
 
 -- a length in bytes; a hyphen where there is none
 abbrev pub length_text : Option ℕ → List ℕ

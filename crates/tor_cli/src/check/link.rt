@@ -7,11 +7,10 @@ ghost use Rattle.tor_bencode.specs.RefView.{view};
 ghost use Rattle.tor_bencode.specs.Spelling.{spelling};
 ghost use Rattle.tor_cli.specs.check.Shown.{magnet_line, tracker_of};
 ghost use Rattle.tor_cli.specs.CommandLine.{magnet_app};
-ghost use Rattle.tor_cli.specs.Foreign.{IsTorrentWith};
+ghost use Rattle.tor_report.specs.Told.{IsTorrentWith};
 ghost use Rattle.tor_cli.specs.Words.{IsMagnetIn};
 ghost use Rattle.tor_spec.specs.valid.View.{view_of};
 
-use crate::foreign::Judged;
 use crate::torrent_words::{argument_of, command_with, flag_of};
 use clap::{ArgMatches, Command};
 use std::alloc::{AllocError, Global};
@@ -19,6 +18,7 @@ use tor_bencode::laws::no_spelling_begins_another;
 use tor_bencode::{BenError, ItemRef, decode_ref};
 use tor_check::Torrent;
 use tor_meta::magnet_with;
+use tor_report::Judged;
 
 const ABOUT: &str = "Prints the magnet link of a torrent";
 

@@ -1,17 +1,19 @@
 //! `tor check` and `tor magnet`: what is printed of the torrent in a file.
-ghost use Rattle.std.specs.Prelude.{ℕ, List, Option, IfErr, IfOk, OnOk, string_bytes};
-ghost use Rattle.tor_cli.specs.Foreign.{AreLinesOf, DoesTell, IsNoTorrent, StopsTelling};
+ghost use Rattle.std.specs.Prelude.{ℕ, List, Option, IfErr, OnOk};
+ghost use Rattle.std.specs.Io.KnownBytes.{Appends};
+ghost use Rattle.tor_cli.specs.Foreign.{AreLinesOf, DoesTell, IsNotTold, StopsTelling};
 ghost use Rattle.tor_cli.specs.check.Telling.{lines_of};
 ghost use Rattle.tor_cli.specs.steps.Writing.{writing};
 
 use crate::check::link::{LinkWords, link_line};
-use crate::check::record::check_line;
-use crate::check::shown::{check_lines, ended_paths};
 use crate::fault::Fault;
-use crate::foreign::{read_file, torrent_with_hashes};
+use crate::foreign::read_file;
 use std::alloc::Global;
 use std::io::Write;
 use tor_meta::write_out;
+use tor_report::{
+    torrent_tree, torrent_with_hashes, write_lines, write_paths, write_record, write_rooted_lines,
+};
 
 /// What is printed of a torrent.
 #[derive(Clone, Copy)]
@@ -24,6 +26,8 @@ pub enum Telling {
     Paths,
     /// All that it describes, as JSON.
     Record,
+    /// What `Lines` has, and the roots of its files.
+    Roots,
 }
 
 /// Writes this of the torrent in the file `place`. Nothing is written before it was judged.
@@ -40,20 +44,34 @@ pub fn tell_torrent<W: Write>(
 {
     let alloc = system.alloc();
     let bytes = read_file(alloc, system, place)?;
-    let lines = lines_of(alloc, &bytes, telling)?;
-    Ok(write_out(out, lines.as_bytes())?)
+    tell_bytes(alloc, &bytes, telling, out)
 }
 
-/// The text that tells this of the torrent that the bytes are.
-fn lines_of(alloc: Global, bytes: &[u8], telling: Telling) -> Result<String, Fault>
-    ensures printed { IfOk result (λ lines. AreLinesOf (lines_of telling) bytes.now (string_bytes lines)) }
-    ensures stopped { IfErr result (IsNoTorrent bytes.now) }
+/// Writes this of the torrent that the bytes are. It is written as it is made, so that what is held is in proportion to
+/// the bytes.
+fn tell_bytes<W: Write>(
+    alloc: Global,
+    bytes: &[u8],
+    telling: Telling,
+    out: &mut W,
+) -> Result<(), Fault>
+    ensures printed { OnOk result ((text : List ℕ) × AreLinesOf (lines_of telling) bytes.now text
+        × Appends (W.contents out.old) (W.contents out.new) text) }
+    ensures stopped { IfErr result
+        (IsNotTold (lines_of telling) bytes.now (W.contents out.old) (W.contents out.new)) }
 {
     let judged = torrent_with_hashes(alloc, bytes)?;
     match telling {
-        Telling::Lines => Ok(check_lines(alloc, &judged.torrent, &judged.hashes)?),
-        Telling::Link(words) => Ok(link_line(alloc, bytes, &judged, words)?),
-        Telling::Paths => Ok(ended_paths(alloc, &judged.torrent)?),
-        Telling::Record => Ok(check_line(alloc, &judged.torrent, &judged.hashes)?),
+        Telling::Lines => Ok(write_lines(alloc, out, &judged.torrent, &judged.hashes)?),
+        Telling::Link(words) => {
+            let line = link_line(alloc, bytes, &judged, words)?;
+            Ok(write_out(out, line.as_bytes())?)
+        }
+        Telling::Paths => Ok(write_paths(alloc, out, &judged.torrent)?),
+        Telling::Record => {
+            let root = torrent_tree(alloc, bytes)?;
+            Ok(write_record(alloc, out, &root, &judged.torrent, &judged.hashes)?)
+        }
+        Telling::Roots => Ok(write_rooted_lines(alloc, out, &judged.torrent, &judged.hashes)?),
     }
 }

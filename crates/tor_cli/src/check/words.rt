@@ -5,7 +5,9 @@ ghost use Rattle.tor_cli.specs.CommandLine.{check_app};
 ghost use Rattle.tor_cli.specs.Words.{IsCheckIn, telling_of};
 
 use crate::check::telling::Telling;
-use crate::torrent_words::{argument_of, command_with, flag_of, json_option};
+use crate::torrent_words::{
+    argument_of, command_with, flag_of, flag_without, json_option, not_beside,
+};
 use clap::{ArgMatches, Command};
 use std::alloc::{AllocError, Global};
 
@@ -22,15 +24,19 @@ pub fn check_command<'a>(alloc: Global) -> Result<Command<'a>, AllocError>
     ensures { IfOk result (λ command. app_of command ≡ check_app) }
 {
     let json = json_option(alloc)?;
+    let roots = not_beside(flag_without(alloc, "roots", "null", ROOTS)?, &["json"])?;
     let words = vec![in alloc;
         flag_of(alloc, "null", NULL),
         json,
+        roots,
         argument_of(alloc, "file", 1, "FILE", "The file with the torrent"),
     ]?;
     command_with(alloc, "check", ABOUT, words)
 }
 
 const ABOUT: &str = "Tells what a torrent describes, or why a file is none";
+
+const ROOTS: &str = "Tells the root of each file too, the hash of its Merkle tree";
 
 const NULL: &str = "Prints the paths of the files alone, each ended by a zero byte";
 
@@ -40,17 +46,22 @@ pub fn check_options<'a>(matches: &ArgMatches<'a>) -> Option<CheckOptions<'a>>
 {
     Some(CheckOptions {
         torrent: matches.get_str("file")?,
-        telling: telling_of(matches.get_flag("null"), matches.get_flag("json")),
+        telling: telling_of(
+            matches.get_flag("roots"),
+            matches.get_flag("null"),
+            matches.get_flag("json"),
+        ),
     })
 }
 
-/// What the flags `--null` and `--json` ask for; they do not stand beside each other.
-fn telling_of(null: bool, json: bool) -> Telling
-    ensures { result ≡ telling_of null json }
+/// What the flags `--roots`, `--null` and `--json` ask for; no two of them stand beside each other.
+fn telling_of(roots: bool, null: bool, json: bool) -> Telling
+    ensures { result ≡ telling_of roots null json }
 {
-    match (null, json) {
-        (_, true) => Telling::Record,
-        (true, false) => Telling::Paths,
-        (false, false) => Telling::Lines,
+    match (roots, null, json) {
+        (true, _, _) => Telling::Roots,
+        (false, _, true) => Telling::Record,
+        (false, true, false) => Telling::Paths,
+        (false, false, false) => Telling::Lines,
     }
 }

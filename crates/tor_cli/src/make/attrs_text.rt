@@ -1,17 +1,17 @@
 //! The text that says which letters of `attr` files have (BEP 47, "attr"), read.
-ghost use Rattle.std.specs.Prelude.{◌≡◌, ◌==◌, ◌∷◌, ◌++◌, [], ℕ, List, false, true, IfNone, IfOk, IfSome, MatchBool};
-ghost use Rattle.std.specs.Prelude.{MatchOption, None, ◌≢◌, codes, flat_map};
-ghost use Rattle.std.specs.List.{All, position_or_len, slice_split};
+ghost use Rattle.std.specs.Prelude.{◌≡◌, ◌++◌, ℕ, List, IfOk, IfSome, MatchOption, Some, codes, flat_map};
+ghost use Rattle.std.specs.List.{All};
 ghost use Rattle.std.specs.Option.{IsSomeAnd};
 ghost use Rattle.tor_tree.specs.FileList.{paths_of, paths_repeat};
-ghost use Rattle.tor_tree.specs.Name.{has_byte, name_fault, slash};
 ghost use Rattle.tor_tree.specs.Path.{IsFilePath};
 ghost use Rattle.tor_tree.specs.Letters.{letters};
 ghost use Rattle.tor_cli.specs.make.AttrsText.{AreLettered, IsLettered, attrs_line, attrs_text};
+ghost use Rattle.tor_cli.specs.make.PathsText.{names_in};
 ghost use Rattle.tor_tree.specs.declared.attr.Attr.{Attr};
 
+use crate::make::path_text::{cut_at, path_in};
 use std::alloc::{AllocError, Global};
-use tor_tree::{Attr, FilePath, ListError, Name, NameError, PathList, copy_paths};
+use tor_tree::{Attr, FilePath, ListError, NameError, PathList, copy_paths};
 
 /// The files of which this is the text: a line for each, with its letters, a space, and its path. None if it is the
 /// text of no files: of other bytes, of a path that is none, or of one that has two lines.
@@ -123,58 +123,16 @@ fn read_letters(text: &[u8]) -> Option<(Attr, &[u8])>
     }
 }
 
-/// What stands before the first such byte, and what after it.
-fn cut_at(byte: u8, text: &[u8]) -> Option<(&[u8], &[u8])>
-    ensures written { IfSome result (λ r. (text.now ≡ r.0.now ++ byte ∷ r.1.now)
-        × (has_byte byte r.0.now ≡ false)) }
-    ensures none { IfNone result (has_byte byte text.now ≡ false) }
-    ensures read { (before after : List ℕ) → has_byte byte before ≡ false → text.now ≡ before ++ byte ∷ after
-        → IsSomeAnd result (λ r. (r.0.now ≡ before) × (r.1.now ≡ after)) }
-{
-    let count = count_before(byte, text);
-    let (before, rest) = text.split_at(count);
-    let (_, after) = rest.split_first()?;
-    Some((before, after))
-}
-
 /// The path of which this is the text.
 fn read_path(alloc: Global, text: &[u8]) -> Result<Option<FilePath>, AllocError>
-    ensures { IfOk result (λ read. MatchOption read (IsFilePath (slice_split (λ b. b == slash) text.now) → ⊥)
-        (λ path. (path ≡ slice_split (λ b. b == slash) text.now) × IsFilePath path)) }
+    ensures { IfOk result (λ read. MatchOption read (IsFilePath (names_in text.now) → ⊥)
+        (λ path. (path ≡ names_in text.now) × IsFilePath path)) }
 {
-    let mut names = Vec::new(alloc);
-    let mut rest = text;
-    'names: while let Some((part, more)) = cut_at(b'/', rest) {
-        if !push_name(alloc, &mut names, part)? {
-            return Ok(None);
-        }
-        rest = more;
+    match path_in(alloc, text) {
+        Ok(path) => Ok(Some(path)),
+        Err(fault) => match fault {
+            NameError::Memory => Err(AllocError),
+            _ => Ok(None),
+        },
     }
-    if !push_name(alloc, &mut names, rest)? {
-        return Ok(None);
-    }
-    Ok(FilePath::new(names))
-}
-
-/// Whether the bytes are a name. If they are, it goes behind the others.
-fn push_name(alloc: Global, names: &mut Vec<Name>, bytes: &[u8]) -> Result<bool, AllocError>
-    ensures { IfOk result (λ is. MatchBool is
-        ((name_fault bytes.now ≡ None) × (names.new.items ≡ names.old.items ++ bytes.now ∷ []))
-        (name_fault bytes.now ≢ None)) }
-{
-    match Name::new(alloc, bytes) {
-        Ok(name) => {
-            names.push(name)?;
-            Ok(true)
-        }
-        Err(NameError::Memory) => Err(AllocError),
-        Err(_) => Ok(false),
-    }
-}
-
-/// How many bytes stand before the first that is this one, or in all.
-fn count_before(byte: u8, text: &[u8]) -> usize
-    ensures { result ≡ position_or_len (λ b. b == byte) text.now }
-{
-    text.iter().take_while(|found| **found != byte).count()
 }

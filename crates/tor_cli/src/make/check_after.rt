@@ -22,11 +22,11 @@ pub fn check_after<T: Threads + Sync>(
     ensures kept { OnOk result (IsAsMade bytes.now) }
     ensures stopped { IfErr result (IsNotAsMade workers bytes.now) }
 {
-    let placed = match placed_at(system, place, bytes) {
+    let placed = match placed_at(system, place, bytes, true) {
         Ok(placed) => placed,
         Err(fault) => return Err(fault),
     };
-    let torrent = &placed.torrent;
+    let torrent = &placed.judged.torrent;
     let progress = Progress::shown(system, torrent.files().len(), shows_progress);
     let counting = Counting {
         source: &placed.source,

@@ -1,15 +1,17 @@
 //! `tor make`: its doing.
 ghost use Rattle.std.specs.Prelude.{◌≡◌, ◌⊎◌, ◌<◌, ◌∷◌, [], ℕ, List, Option, IfErr, IfOk, OnOk, None, Some, length};
 ghost use Rattle.std.specs.Prelude.{true};
-ghost use Rattle.std.specs.Prelude.{option_map};
+ghost use Rattle.std.specs.Prelude.{IfSome, option_map};
+ghost use Rattle.std.specs.List.Sorted.{IsStrictlySortedBy};
+ghost use Rattle.tor_tree.specs.Path.{path_cmp};
 ghost use Rattle.tor_meta.specs.FromInput.{MakesOf, StopsReading};
 ghost use Rattle.tor_tree.specs.Name.{name_fault};
 ghost use Rattle.tor_tree.specs.declared.names.NameError.TheVariants.{Memory};
 ghost use Rattle.tor_cli.specs.make.Attrs.{HaveLetters, IsNotLettered};
 ghost use Rattle.tor_cli.specs.Place.{refusal_by};
-ghost use Rattle.tor_cli.specs.make.Request.{DoesInput, DoesMake, DoesPlace, IsOrder, IsOrderOfOne, IsTorrentAt};
-ghost use Rattle.tor_cli.specs.make.Request.{IsTorrentToSend, attrs_of};
-ghost use Rattle.tor_cli.specs.make.Request.{StopsFinding, StopsInput, StopsMake, StopsPlace, StopsSending};
+ghost use Rattle.tor_cli.specs.make.Request.{DoesFiles, DoesInput, DoesMake, DoesPlace, IsOrder, IsOrderOf};
+ghost use Rattle.tor_cli.specs.make.Request.{IsOrderOfOne, IsTorrentAt, IsTorrentToSend, StopsFiles, StopsFinding, StopsInput};
+ghost use Rattle.tor_cli.specs.make.Request.{StopsMake, StopsPlace, StopsSending, attrs_of};
 ghost use Rattle.tor_cli.specs.Streams.{streams};
 ghost use Rattle.tor_cli.specs.steps.Lettering.{IsNotOrdered};
 ghost use Rattle.tor_cli.specs.steps.Writing.{writing};
@@ -18,9 +20,10 @@ ghost use Rattle.tor_cli.specs.Words.{length_for};
 use crate::fault::Fault;
 use crate::make::attrs_file::lettered_files;
 use crate::make::check_after::check_after;
-use crate::make::from_place::{files_at, torrent_of};
+use crate::make::chosen_files::chosen_files;
+use crate::make::from_place::{LetteredFiles, files_at, torrent_of};
 use crate::make::options::MakeOptions;
-use crate::make::out_file::{refuse_out_among_files, send};
+use crate::make::out_file::{refuse_out_among_files, refuse_unwritable, send};
 use crate::make::way::{Way, how_of, workers_after};
 use crate::progress::Progress;
 use std::alloc::{AllocError, Global};
@@ -32,10 +35,10 @@ use tor_source::drop_input;
 use tor_tree::{Attr, FilePath, Name, NameError};
 
 /// Makes the torrent of one file, whose content the reader has, or of the files at a place of the system. The first of
-/// these faults is answered: of the reader, the name, the place, the letters, the file that it is to go to if that is
-/// one of those at the place, the other options, the files, the check of `--check-after`, the writer. That check is of
-/// the place too: its faults come in the order of a recheck of what was made, and that not all pieces are there comes
-/// last.
+/// these faults is answered: of the reader or the list of files, the name, the place, the letters, the file that it is
+/// to go to if that is one of those at the place or cannot be written, the other options, the files, the check of
+/// `--check-after`, the writer. That check is of the place too: its faults come in the order of a recheck of what was
+/// made, and that not all pieces are there comes last.
 pub fn make<T: Threads + Wait + Sync + Send + Clone + Drop + 'static, R: Read, W: Write>(
     rt: &T,
     system: &HostRuntime,
@@ -50,7 +53,7 @@ pub fn make<T: Threads + Wait + Sync + Send + Clone + Drop + 'static, R: Read, W
         (W.contents out.old) (W.contents out.new))) }
 {
     match options.place {
-        Some(place) => make_of_place(rt, system, options, place, out, shows_progress),
+        Some(place) => make_of_place(rt, system, options, place, reader, out, shows_progress),
         None => make_of_input(rt, system, options, reader, out),
     }
 }
@@ -101,21 +104,43 @@ fn torrent_of_input<T: Threads + Wait + Sync + Send + Clone + Drop + 'static, R:
     }
 }
 
-/// Makes the torrent of the file or the folder at a place of the system. Nothing is written before it may go out.
-fn make_of_place<T: Threads + Wait + Sync, W: Write>(
+/// Makes the torrent of the file or the folder at a place of the system. The list that chooses files is read first.
+fn make_of_place<T: Threads + Wait + Sync, R: Read, W: Write>(
     rt: &T,
     system: &HostRuntime,
     options: &MakeOptions<'_>,
     place: &str,
+    reader: &mut R,
     out: &mut W,
     shows_progress: bool,
 ) -> Result<(), Fault>
-    ensures made { (reader : Option (List ℕ)) → OnOk result (DoesPlace options.now (writing reader
+    ensures made { OnOk result (DoesPlace options.now (streams (R.remaining reader.old) (R.remaining reader.new)
         (W.contents out.old) (W.contents out.new))) }
-    ensures stopped { (reader : Option (List ℕ)) → IfErr result (StopsPlace options.now (writing reader
+    ensures stopped { IfErr result (StopsPlace options.now (streams (R.remaining reader.old) (R.remaining reader.new)
         (W.contents out.old) (W.contents out.new))) }
 {
-    let torrent = torrent_to_send(rt, system, options, place, shows_progress)?;
+    let chosen = chosen_files(system.alloc(), system, options.list, reader)?;
+    make_of_files(rt, system, options, place, chosen, out, shows_progress)
+}
+
+/// Makes the torrent of the file at a place of the system, or of the files below the folder there: all, or those that
+/// are chosen. Nothing is written before it may go out.
+fn make_of_files<T: Threads + Wait + Sync, W: Write>(
+    rt: &T,
+    system: &HostRuntime,
+    options: &MakeOptions<'_>,
+    place: &str,
+    chosen: Option<Vec<FilePath>>,
+    out: &mut W,
+    shows_progress: bool,
+) -> Result<(), Fault>
+    requires { IfSome chosen (λ paths. IsStrictlySortedBy path_cmp paths.items) }
+    ensures made { (reader : Option (List ℕ)) → OnOk result (DoesFiles options.now
+        (option_map (λ paths. paths.items) chosen) (writing reader (W.contents out.old) (W.contents out.new))) }
+    ensures stopped { (reader : Option (List ℕ)) → IfErr result (StopsFiles options.now
+        (option_map (λ paths. paths.items) chosen) (writing reader (W.contents out.old) (W.contents out.new))) }
+{
+    let torrent = torrent_to_send(rt, system, options, place, chosen, shows_progress)?;
     Ok(send(system, out, options.out, &torrent)?)
 }
 
@@ -126,13 +151,16 @@ fn torrent_to_send<T: Threads + Wait + Sync>(
     system: &HostRuntime,
     options: &MakeOptions<'_>,
     place: &str,
+    chosen: Option<Vec<FilePath>>,
     shows_progress: bool,
 ) -> Result<Vec<u8>, Fault>
-    ensures made { IfOk result (λ torrent. IsTorrentToSend options.now torrent.items) }
+    requires { IfSome chosen (λ paths. IsStrictlySortedBy path_cmp paths.items) }
+    ensures made { IfOk result
+        (λ torrent. IsTorrentToSend options.now (option_map (λ paths. paths.items) chosen) torrent.items) }
     ensures some { IfOk result (λ torrent. 0 < length torrent.items) }
-    ensures stopped { IfErr result (StopsSending options.now) }
+    ensures stopped { IfErr result (StopsSending options.now (option_map (λ paths. paths.items) chosen)) }
 {
-    let torrent = torrent_at(rt, system, options, place, shows_progress)?;
+    let torrent = torrent_at(rt, system, options, place, chosen, shows_progress)?;
     if !options.check_after {
         return Ok(torrent);
     }
@@ -147,22 +175,43 @@ fn torrent_at<T: Threads + Wait + Sync>(
     system: &HostRuntime,
     options: &MakeOptions<'_>,
     place: &str,
+    chosen: Option<Vec<FilePath>>,
     shows_progress: bool,
 ) -> Result<Vec<u8>, Fault>
-    ensures made { IfOk result (λ torrent. IsTorrentAt options.now torrent.items) }
+    requires { IfSome chosen (λ paths. IsStrictlySortedBy path_cmp paths.items) }
+    ensures made { IfOk result
+        (λ torrent. IsTorrentAt options.now (option_map (λ paths. paths.items) chosen) torrent.items) }
     ensures some { IfOk result (λ torrent. 0 < length torrent.items) }
-    ensures stopped { IfErr result (StopsFinding options.now) }
+    ensures stopped { IfErr result (StopsFinding options.now (option_map (λ paths. paths.items) chosen)) }
+{
+    let (found, order) = files_to_make(system, options, place, chosen)?;
+    let progress = Progress::shown(system, found.files.len(), shows_progress);
+    Ok(torrent_of(rt, system.alloc(), options.way, &found, &order, &progress)?)
+}
+
+/// The files at a place, and the order that the options ask for of them.
+pub(crate) fn files_to_make(
+    system: &HostRuntime,
+    options: &MakeOptions<'_>,
+    place: &str,
+    chosen: Option<Vec<FilePath>>,
+) -> Result<(LetteredFiles, Order), Fault>
+    requires { IfSome chosen (λ paths. IsStrictlySortedBy path_cmp paths.items) }
+    ensures ordered { IfOk result (λ both.
+        IsOrderOf options.now (option_map (λ paths. paths.items) chosen) both.1 both.0.files.items) }
+    ensures each { IfOk result (λ both. length both.0.source ≡ length both.0.files.items) }
+    ensures stopped { IfErr result (StopsFinding options.now (option_map (λ paths. paths.items) chosen)) }
 {
     let alloc = system.alloc();
     let name = name_of(alloc, options)?;
-    let found = files_at(system, place, options.attrs, &name)?;
+    let found = files_at(system, place, chosen, options.attrs, &name)?;
     refuse_out_among_files(system, options.out, &found.source)?;
+    refuse_unwritable(system, options.out)?;
     let length = options
         .piece_length
         .for_files(&found.source, found.files.len());
     let order = order_of(alloc, options, name, found.single, length)?;
-    let progress = Progress::shown(system, found.files.len(), shows_progress);
-    Ok(torrent_of(rt, alloc, options.way, &found, &order, &progress)?)
+    Ok((found, order))
 }
 
 /// The order that the options ask for, of one file, and its letters.

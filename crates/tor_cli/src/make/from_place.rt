@@ -1,16 +1,21 @@
 //! From a file or a folder of the system to the torrent of it.
-ghost use Rattle.std.specs.Prelude.{◌≡◌, IfErr, IfOk, length, map, option_map, true, vec_len};
+ghost use Rattle.std.specs.Prelude.{◌≡◌, ◌<◌, ◌≤◌, IfErr, IfOk, IfSome, List, Option, Some, ℕ, false, length, map};
+ghost use Rattle.std.specs.Prelude.{option_map, true, vec_len};
+ghost use Rattle.std.specs.List.{All};
+ghost use Rattle.std.specs.List.Sorted.{IsStrictlySortedBy};
 ghost use Rattle.tor_meta.specs.Make.{IsGivenTo, make_refusal};
 ghost use Rattle.tor_meta.specs.MakeStreams.{stream_refusal};
 ghost use Rattle.tor_source.specs.Answers.{system_answers};
 ghost use Rattle.tor_cli.specs.make.Attrs.{HaveLetters};
-ghost use Rattle.tor_cli.specs.Place.{AreFound, IsGivenBy, IsStreamFault};
+ghost use Rattle.tor_cli.specs.Place.{AreFilesAt, AreFound, IsGivenBy, IsStreamFault};
 ghost use Rattle.tor_cli.specs.Place.{IsNotFound, refusal_by};
 ghost use Rattle.tor_tree.specs.FileList.{paths_of};
+ghost use Rattle.tor_tree.specs.Path.{path_cmp};
 ghost use Rattle.tor_cli.specs.make.Request.{IsMadeOfFound};
 
 use crate::fault::Fault;
 use crate::make::attrs_file::lettered_files;
+use crate::make::path_text::path_in;
 use crate::make::way::Way;
 use crate::progress::{CountedReader, Counting, Progress, erase};
 use std::alloc::{AllocError, Global};
@@ -18,9 +23,10 @@ use std::io;
 use std::rt::Files;
 use std::sync::Wait;
 use std::thread::Threads;
+use tor_engine::EngineError;
 use tor_meta::{MakeError, Order, make_streams_with, make_with};
-use tor_source::{FolderSource, LazyFile, ScanFault};
-use tor_tree::{Attr, FilePath, Name};
+use tor_source::{FolderSource, LazyFile, Refusal, Refused, ScanFault};
+use tor_tree::{Attr, FilePath, Name, NameError};
 
 /// The files at a place: file i of the source has the i-th path, and its letters.
 #[derive(Drop)]
@@ -39,21 +45,26 @@ struct UnletteredFiles {
     single: bool,
 }
 
-/// The file at a place, which gets the torrent's name, or the files below the folder there. A link at the place itself
-/// is followed. The letters are those that the file `attrs` has, if one is named.
+/// The file at a place, which gets the torrent's name, or the files below the folder there: all of them, or those that
+/// are chosen, whose paths rise. A link at the place itself is followed, and none below it. The letters are those that
+/// the file `attrs` has, if one is named.
 pub fn files_at(
     system: &HostRuntime,
     place: &str,
+    chosen: Option<Vec<FilePath>>,
     attrs: Option<&str>,
     name: &Name,
 ) -> Result<LetteredFiles, Fault>
-    ensures paths { IfOk result (λ found. AreFound name.now found.single (paths_of found.files.items)) }
+    requires { IfSome chosen (λ paths. IsStrictlySortedBy path_cmp paths.items) }
+    ensures paths { IfOk result (λ found. AreFilesAt name.now (option_map (λ paths. paths.items) chosen) found.single
+        (paths_of found.files.items)) }
     ensures letters { IfOk result
         (λ found. HaveLetters (option_map (λ place. place.now) attrs.entry) found.files.items) }
     ensures each { IfOk result (λ found. length found.source ≡ length found.files.items) }
-    ensures stopped { IfErr result (IsNotFound name.now (option_map (λ place. place.now) attrs.entry)) }
+    ensures stopped { IfErr result (IsNotFound name.now (option_map (λ paths. paths.items) chosen)
+        (option_map (λ place. place.now) attrs.entry)) }
 {
-    let placed = paths_at(system, place, name)?;
+    let placed = paths_at(system, place, chosen, name)?;
     let UnletteredFiles {
         source,
         paths,
@@ -67,7 +78,78 @@ pub fn files_at(
     })
 }
 
-fn paths_at(system: &HostRuntime, place: &str, name: &Name) -> Result<UnletteredFiles, ScanFault>
+fn paths_at(
+    system: &HostRuntime,
+    place: &str,
+    chosen: Option<Vec<FilePath>>,
+    name: &Name,
+) -> Result<UnletteredFiles, Fault>
+    requires { IfSome chosen (λ paths. IsStrictlySortedBy path_cmp paths.items) }
+    ensures paths { IfOk result (λ placed. AreFilesAt name.now (option_map (λ paths. paths.items) chosen)
+        placed.single placed.paths.items) }
+    ensures each { IfOk result (λ placed. length placed.source ≡ length placed.paths.items) }
+    ensures stopped { (attrs : Option (List ℕ)) →
+        IfErr result (IsNotFound name.now (option_map (λ paths. paths.items) chosen) attrs) }
+{
+    match chosen {
+        Some(paths) => chosen_at(system, place, paths),
+        None => Ok(all_at(system, place, name)?),
+    }
+}
+
+/// The files of a folder that are chosen. The first that cannot be taken is the fault.
+fn chosen_at(
+    system: &HostRuntime,
+    place: &str,
+    chosen: Vec<FilePath>,
+) -> Result<UnletteredFiles, Fault>
+    ensures single { IfOk result (λ placed. placed.single ≡ false) }
+    ensures paths { IfOk result (λ placed. placed.paths.items ≡ chosen.items) }
+    ensures short { IfOk result (λ placed. All (λ path. length path ≤ 64) placed.paths.items) }
+    ensures each { IfOk result (λ placed. length placed.source ≡ length placed.paths.items) }
+    ensures stopped { (name : List ℕ) (attrs : Option (List ℕ)) →
+        IfErr result (IsNotFound name (Some chosen.items) attrs) }
+{
+    let alloc = system.alloc();
+    let survey = FolderSource::listed(system, alloc, place, chosen)?;
+    if let Some(refused) = survey.refused.first() {
+        return Err(first_refusal(alloc, refused, &survey.paths)?);
+    }
+    Ok(UnletteredFiles {
+        source: survey.source,
+        paths: survey.paths,
+        single: false,
+    })
+}
+
+/// The fault of the first file that is not taken, if these are taken.
+fn first_refusal(alloc: Global, refused: &Refused, taken: &[FilePath]) -> Result<Fault, AllocError>
+    ensures { (name : List ℕ) (chosen : List (List (List ℕ))) (attrs : Option (List ℕ)) →
+        length taken.now < length chosen → IfOk result (IsNotFound name (Some chosen) attrs) }
+{
+    match refused.refusal {
+        Refusal::Missing => {
+            let file = files_before(alloc, &refused.path, taken)?;
+            Ok(Fault::Make(MakeError::Hashing(EngineError::Missing { file })))
+        }
+        _ => Ok(Fault::Scan(refused.refusal.fault())),
+    }
+}
+
+/// How many of these files, whose paths rise, stand before the path of these bytes.
+fn files_before(alloc: Global, path: &[u8], files: &[FilePath]) -> Result<u64, AllocError>
+    ensures { IfOk result (λ count. count ≤ length files.now) }
+{
+    match path_in(alloc, path) {
+        Ok(path) => match files.binary_search(&path) {
+            Ok(count) | Err(count) => Ok(count as u64),
+        },
+        Err(NameError::Memory) => Err(AllocError),
+        Err(_) => Ok(0),
+    }
+}
+
+fn all_at(system: &HostRuntime, place: &str, name: &Name) -> Result<UnletteredFiles, ScanFault>
     ensures paths { IfOk result (λ placed. AreFound name.now placed.single placed.paths.items) }
     ensures each { IfOk result (λ placed. length placed.source ≡ length placed.paths.items) }
 {

@@ -1,10 +1,13 @@
 //! What the words of `tor make` ask for.
 ghost use Rattle.clap.specs.Words.{first_of, found_of, rows_of};
-ghost use Rattle.std.specs.Prelude.{◌≡◌, IfSome, IsSome, Some, codes};
+ghost use Rattle.std.specs.Prelude.{◌≡◌, IfSome, IsSome, None, Some, codes};
 ghost use Rattle.tor_tree.specs.declared.kinds.Kind.{Kind};
-ghost use Rattle.tor_cli.specs.Words.{AreOptionsIn, HasWorkers, IsLengthIn, IsWorkersIn, way_word, word_of};
+ghost use Rattle.tor_cli.specs.Words.{AreOptionsIn, AreTorrentOptionsIn, HasWorkers, IsLengthIn, IsWorkersIn};
+ghost use Rattle.tor_cli.specs.Words.{way_word, word_of};
 ghost use Rattle.tor_cli.specs.declared.make.piece_length.PieceLength.TheVariants.{Auto};
 ghost use Rattle.tor_cli.specs.declared.make.way.Way.{Way};
+ghost use Rattle.tor_cli.specs.declared.make.way.Way.TheVariants.{Shared};
+ghost use Rattle.tor_sums.specs.declared.how.How.TheVariants.{One};
 
 use crate::make::piece_length::{PieceLength, piece_length_of};
 use crate::make::way::Way;
@@ -37,12 +40,15 @@ pub struct MakeOptions<'a> {
     pub place: Option<&'a str>,
     /// The file that has the letters of its files; none has letters if there is none.
     pub attrs: Option<&'a str>,
+    /// The file that lists which files of the folder it is made of, or `-` for standard input; all if there is none.
+    pub list: Option<&'a str>,
 }
 
-/// The options that stand in the words; none if `clap` let through words that give no option its value, as a number of
-/// workers that is none.
-pub fn make_options<'a, T: Threads>(rt: &T, matches: &ArgMatches<'a>) -> Option<MakeOptions<'a>>
-    ensures { IfSome result (AreOptionsIn (rows_of (found_of matches.now))) }
+/// The options that say what the torrent is to have, beside its files and who hashes them; none if `clap` let through
+/// words that give no option its value. One worker hashes, of standard input.
+pub(crate) fn torrent_options<'a>(matches: &ArgMatches<'a>) -> Option<MakeOptions<'a>>
+    ensures asked { IfSome result (AreTorrentOptionsIn (rows_of (found_of matches.now))) }
+    ensures shared { IfSome result (λ options. options.way ≡ Shared One) }
 {
     Some(MakeOptions {
         kind: kind_in(matches)?,
@@ -51,12 +57,28 @@ pub fn make_options<'a, T: Threads>(rt: &T, matches: &ArgMatches<'a>) -> Option<
         announce: matches.get_str("announce"),
         is_private: matches.get_flag("private"),
         tail: matches.get_flag("tail"),
-        way: way_in(rt, matches)?,
+        way: Way::Shared(How::One),
         span: matches.get_one::<u32>("span")?,
-        check_after: matches.get_flag("check-after"),
+        check_after: false,
         out: matches.get_str("out"),
-        place: matches.get_str("path"),
+        place: None,
         attrs: matches.get_str("attrs"),
+        list: matches.get_str("files-from"),
+    })
+}
+
+/// The options that stand in the words; none if `clap` let through words that give no option its value, as a number of
+/// workers that is none.
+pub fn make_options<'a, T: Threads>(rt: &T, matches: &ArgMatches<'a>) -> Option<MakeOptions<'a>>
+    requires { first_of (codes "plan") (rows_of (found_of matches.now)) ≡ None }
+    ensures { IfSome result (AreOptionsIn (rows_of (found_of matches.now))) }
+{
+    let torrent = torrent_options(matches)?;
+    Some(MakeOptions {
+        way: way_in(rt, matches)?,
+        check_after: matches.get_flag("check-after"),
+        place: matches.get_str("path"),
+        ..torrent
     })
 }
 
@@ -84,7 +106,7 @@ fn kind_in(matches: &ArgMatches<'_>) -> Option<Kind>
 }
 
 /// Who hashes, by two of the words.
-fn way_in<T: Threads>(rt: &T, matches: &ArgMatches<'_>) -> Option<Way>
+pub(crate) fn way_in<T: Threads>(rt: &T, matches: &ArgMatches<'_>) -> Option<Way>
     ensures word { IfSome result
         (λ way. first_of (codes "how") (rows_of (found_of matches.now)) ≡ Some (way_word way)) }
     ensures workers { IfSome result (λ way. IsWorkersIn (rows_of (found_of matches.now)) (HasWorkers way)) }
@@ -106,7 +128,7 @@ fn kind_of(word: &str) -> Option<Kind>
     }
 }
 
-/// One worker takes no notice of the number of workers.
+/// One worker ignores the number of workers.
 fn way_of(word: &str, workers: u32) -> Option<Way>
     ensures value { IfSome result (λ way. (way_word way ≡ word.now) × HasWorkers way workers) }
     ensures each { (way : Way) → word.now ≡ way_word way → HasWorkers way workers → result ≡ Some way }

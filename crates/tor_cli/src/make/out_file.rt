@@ -2,11 +2,13 @@
 ghost use Rattle.std.specs.Prelude.{◌≡◌, ◌⊎◌, ◌≤◌, ◌<◌, IfErr, IsSome, OnOk, length, option_map};
 ghost use Rattle.tor_cli.specs.make.Request.{Sends, SendsFront};
 ghost use Rattle.tor_cli.specs.declared.fault.Fault.TheVariants.{OutAmongFiles, Resources, Scan};
+ghost use Rattle.tor_cli.specs.declared.fault.Fault.TheVariants.{Write as OutFault};
 ghost use Rattle.tor_source.specs.declared.faults.ScanFault.TheVariants.{System};
 
 use crate::fault::Fault;
-use std::fs;
-use std::io::{ErrorKind, Write};
+use crate::unwritten::Unwritten;
+use std::fs::{self, File, OpenOptions};
+use std::io::{self, ErrorKind, Write};
 use std::rt::Files;
 use tor_meta::{WriteFault, write_out};
 use tor_source::FolderSource;
@@ -66,4 +68,63 @@ pub fn refuse_out_among_files(
         Err(fault) if matches!(fault.kind(), ErrorKind::OutOfMemory) => Err(Fault::Resources),
         _ => Ok(()),
     }
+}
+
+/// Refuses a file `place` that cannot be written, before there is anything to write. What stands there stays as it is:
+/// a file is opened and not emptied. If none is there, none is made: another one beside it is, and is removed.
+pub fn refuse_unwritable(system: &HostRuntime, place: Option<&str>) -> Result<(), Fault>
+    ensures { IfErr result
+        (λ fault. (fault ≡ OutFault 0) × IsSome (option_map (λ name. name.now) place.entry)) }
+{
+    match place {
+        Some(place) => match try_writing(system, place) {
+            Ok(()) => Ok(()),
+            Err(reason) => Err(Fault::Write(Unwritten::before_all(reason))),
+        },
+        None => Ok(()),
+    }
+}
+
+/// Tries whether the file can be written. Of what is neither file nor folder, such as a FIFO, opening it tells.
+fn try_writing(system: &HostRuntime, place: &str) -> io::Result<()> {
+    let Ok(found) = system.metadata(place) else {
+        return try_making(system, place);
+    };
+    if found.is_dir() {
+        return Err(io::Error::from(ErrorKind::IsADirectory));
+    }
+    if found.is_file() {
+        OpenOptions::new().write(true).open(system, place)?;
+    }
+    Ok(())
+}
+
+/// Tries whether a file can be made here, as one beside it can. Of a link to nothing, and where the system has another
+/// reason against that one, as the length of its name, opening it tells.
+fn try_making(system: &HostRuntime, place: &str) -> io::Result<()> {
+    let Ok(beside) = format!(in system.alloc(); "{place}.unmade") else {
+        return Ok(());
+    };
+    if system.symlink_metadata(place).is_ok() {
+        return Ok(());
+    }
+    match File::create_new(system, beside.as_str()) {
+        Ok(_) => {
+            let _ = system.remove_file(beside.as_str());
+            Ok(())
+        }
+        Err(fault) if is_for_any_file(fault.kind()) => Err(fault),
+        Err(_) => Ok(()),
+    }
+}
+
+/// Whether a fault that keeps one file from being made keeps every file from it that stands beside.
+fn is_for_any_file(kind: ErrorKind) -> bool {
+    matches!(
+        kind,
+        ErrorKind::NotFound
+            | ErrorKind::NotADirectory
+            | ErrorKind::PermissionDenied
+            | ErrorKind::ReadOnlyFilesystem
+    )
 }

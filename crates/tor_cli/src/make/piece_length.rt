@@ -1,5 +1,7 @@
 //! How long the pieces are to be: what a word of `tor make` asks for, and what is wrong with one that asks for nothing.
 ghost use Rattle.std.specs.Prelude.{◌≡◌, ◌<◌, ◌^◌, ℕ, IfOk, IfSome, Some, codes};
+ghost use Rattle.tor_source.specs.Source.{SourceFacts, told_length};
+ghost use Rattle.tor_cli.specs.make.FileSizes.{size_of_files, told_bytes};
 ghost use Rattle.tor_cli.specs.Words.{IsLengthWord, IsNumber, IsUsage, length_for};
 ghost use Rattle.tor_cli.specs.declared.make.piece_length.PieceLength.TheVariants.{Auto, Bytes};
 
@@ -30,7 +32,9 @@ impl PieceLength {
 
     /// The bytes of a piece of the files of a source, which are asked for their lengths if that counts.
     pub(crate) fn for_files<S: Source>(self, source: &S, count: usize) -> u64
-        ensures { (size : ℕ) × (result ≡ length_for self size) }
+        ensures some { (size : ℕ) × (result ≡ length_for self size) }
+        ensures steady { (facts : SourceFacts S.Fault) → S.is_steady source.now facts →
+            result ≡ length_for self (size_of_files facts count) }
     {
         match self {
             PieceLength::Auto => self.for_size(told_size(source, count)),
@@ -64,25 +68,41 @@ fn bytes_of(word: &str) -> Option<PieceLength>
     }
 }
 
-/// The bytes that the files of a source have together, as it tells their lengths. A file of which it tells none counts
-/// as empty: what is wrong with it is told when it is read.
-fn told_size<S: Source>(source: &S, count: usize) -> u64 {
+/// The bytes that the first so many files of a source have together, as it tells their lengths, at most 2^64 - 1.
+fn told_size<S: Source>(source: &S, count: usize) -> u64
+    ensures { (facts : SourceFacts S.Fault) → S.is_steady source.now facts →
+        result ≡ size_of_files facts count }
+{
     let mut size = 0_u64;
     'files: for file in 0..count {
-        if let Ok(Some(length)) = source.length(file as u64) {
-            size = size.saturating_add(length);
-        }
+        size = size.saturating_add(told_bytes(source, file as u64));
     }
     size
 }
 
+/// The bytes of a file, as its source tells. One of which it tells none counts as empty: what is wrong with it is told
+/// when it is read.
+fn told_bytes<S: Source>(source: &S, file: u64) -> u64
+    ensures { (facts : SourceFacts S.Fault) → S.is_steady source.now facts →
+        result ≡ told_bytes (told_length facts file) }
+{
+    match source.length(file) {
+        Ok(Some(length)) => length,
+        _ => 0,
+    }
+}
+
 /// What is wrong with a word that asks for no piece length, as `clap` says it of a number. Of a number with a unit the
 /// line says how many bytes it is.
-pub(crate) fn piece_length_fault(alloc: Global, word: &str) -> Result<Fault, AllocError>
-    ensures { IfOk result (IsUsage (codes "tor make")) }
+pub(crate) fn piece_length_fault(
+    alloc: Global,
+    word: &str,
+    command: &str,
+) -> Result<Fault, AllocError>
+    ensures { IfOk result (IsUsage command.now) }
 {
     let text = length_text(alloc, &escaped(alloc, word)?, word)?;
-    Fault::usage(alloc, &text, "tor make")
+    Fault::usage(alloc, &text, command)
 }
 
 fn length_text(alloc: Global, printed: &str, word: &str) -> Result<String, AllocError> {

@@ -3,13 +3,16 @@ ghost use Rattle.clap.specs.Words.{app_of, rule_of};
 ghost use Rattle.clap.specs.declared.builder.value_parser.ValueParser.{ValueParser};
 ghost use Rattle.std.specs.Prelude.{◌≡◌, ◌∷◌, [], IfOk, codes, false};
 ghost use Rattle.tor_cli.specs.CommandLine.{AreHows, AreKinds, announce_option, attrs_option, flag_bound, how_option};
-ghost use Rattle.tor_cli.specs.CommandLine.{kind_option, make_app};
+ghost use Rattle.tor_cli.specs.CommandLine.{kind_option, list_option, make_app};
 ghost use Rattle.tor_cli.specs.CommandLine.{name_option, out_option, path_argument, piece_length_option};
 ghost use Rattle.tor_cli.specs.CommandLine.{private_option, span_option, torrent_rules, way_rules, with_ways};
 ghost use Rattle.tor_cli.specs.steps.Bound.{wanted_by};
 ghost use Rattle.tor_cli.specs.steps.Rules.{HaveRules};
 
-use crate::torrent_words::{flag_beside, flag_of, option_of, with_words, workers_option};
+use crate::lots::lot_words::lot_words;
+use crate::torrent_words::{
+    flag_beside, flag_of, option_beside, option_of, with_words, workers_option,
+};
 use clap::{Arg, Command, value_parser};
 use std::alloc::{AllocError, Global};
 
@@ -17,7 +20,7 @@ const KINDS: [&str; 3] = ["v1", "v2", "hybrid"];
 
 const DEFAULT_KIND: &str = "v2";
 
-const NAME: &str = "The name that the torrent suggests for its content";
+pub(crate) const NAME: &str = "The name that the torrent suggests for its content";
 
 const PIECE_LENGTH: &str =
     "Bytes in a piece: a power of two from 16384 to 1073741824, or auto, which suits the files of PATH";
@@ -37,6 +40,9 @@ const TAIL: &str = "Pads the last file of a hybrid folder too; changes nothing e
 
 const ATTRS: &str =
     "The file that says which files are executable or hidden, a line each: x, h or hx, a space, the path";
+
+const FILES_FROM: &str =
+    "The file, or - for standard input, that lists which files below PATH to take, each path ended by a zero byte";
 
 const HOWS: [&str; 4] = ["one", "halves", "board", "streams"];
 
@@ -58,10 +64,11 @@ pub fn make_command<'a>(alloc: Global) -> Result<Command<'a>, AllocError>
     ensures { IfOk result (λ command. (kinds hows : ValueParser) × AreKinds kinds × AreHows hows
         × (app_of command ≡ make_app kinds hows)) }
 {
-    let torrent = torrent_words(alloc)?;
+    let torrent = torrent_words(alloc, name_option(alloc)?)?;
     let named = Command::new(alloc, "make").about(ABOUT).after_help(MORE);
     let begun = with_words(named, torrent)?;
-    add_ways(alloc, begun)
+    let hashed = add_ways(alloc, begun)?;
+    with_words(hashed, lot_words(alloc)?)
 }
 
 const ABOUT: &str = "Makes a torrent of standard input, or of a file or folder";
@@ -70,18 +77,21 @@ const MORE: &str =
     "Fastest for a file or folder: --how board --workers auto. The torrent is the same for each HOW.";
 
 // What the torrent is to have, beside its files.
-fn torrent_words<'a>(alloc: Global) -> Result<Vec<Arg<'a>>, AllocError>
+pub(crate) fn torrent_words<'a>(alloc: Global, name: Arg<'a>) -> Result<Vec<Arg<'a>>, AllocError>
+    requires { name.global ≡ false }
     ensures { IfOk result (λ words. (kinds : ValueParser) × AreKinds kinds
-        × HaveRules words.items (torrent_rules kinds)) }
+        × HaveRules words.items (torrent_rules (rule_of name.entry) kinds)) }
 {
+    let list = list_option(alloc)?;
     Ok(vec![in alloc;
-        name_option(alloc),
+        name,
         piece_length_option(alloc),
         kind_option(alloc),
         announce_option(alloc),
         private_option(alloc),
         flag_of(alloc, "tail", TAIL),
         attrs_option(alloc),
+        list,
     ]?)
 }
 
@@ -109,11 +119,12 @@ fn way_words<'a>(alloc: Global) -> Result<Vec<Arg<'a>>, AllocError>
     ]?)
 }
 
-fn name_option<'a>(alloc: Global) -> Arg<'a>
-    ensures rule { rule_of result ≡ name_option }
-    ensures local { result.global ≡ false }
+/// It has to be there unless a plan has the name.
+fn name_option<'a>(alloc: Global) -> Result<Arg<'a>, AllocError>
+    ensures rule { IfOk result (λ option. rule_of option ≡ name_option) }
+    ensures local { IfOk result (λ option. option.global ≡ false) }
 {
-    option_of(alloc, "name", "NAME", NAME).required(true)
+    option_of(alloc, "name", "NAME", NAME).required_unless_present("plan")
 }
 
 fn piece_length_option<'a>(alloc: Global) -> Arg<'a>
@@ -153,6 +164,14 @@ fn attrs_option<'a>(alloc: Global) -> Arg<'a>
     option_of(alloc, "attrs", "FILE", ATTRS)
 }
 
+fn list_option<'a>(alloc: Global) -> Result<Arg<'a>, AllocError>
+    ensures rule { IfOk result (λ option. rule_of option ≡ list_option) }
+    ensures local { IfOk result (λ option. option.global ≡ false) }
+    ensures other { IfOk result (λ option. wanted_by option ≡ codes "path" ∷ []) }
+{
+    option_beside(alloc, "files-from", "path", "FILE", FILES_FROM)
+}
+
 fn how_option<'a>(alloc: Global) -> Arg<'a>
     ensures rule { (hows : ValueParser) × AreHows hows × (rule_of result ≡ how_option hows) }
     ensures local { result.global ≡ false }
@@ -162,7 +181,7 @@ fn how_option<'a>(alloc: Global) -> Arg<'a>
         .default_value(DEFAULT_HOW)
 }
 
-fn span_option<'a>(alloc: Global) -> Arg<'a>
+pub(crate) fn span_option<'a>(alloc: Global) -> Arg<'a>
     ensures rule { rule_of result ≡ span_option }
     ensures local { result.global ≡ false }
 {
@@ -179,7 +198,7 @@ fn check_after_option<'a>(alloc: Global) -> Result<Arg<'a>, AllocError>
     flag_beside(alloc, "check-after", "path", CHECK_AFTER)
 }
 
-fn out_option<'a>(alloc: Global) -> Arg<'a>
+pub(crate) fn out_option<'a>(alloc: Global) -> Arg<'a>
     ensures rule { rule_of result ≡ out_option }
     ensures local { result.global ≡ false }
 {

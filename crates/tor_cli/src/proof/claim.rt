@@ -21,7 +21,7 @@ pub struct Claim {
     pub piece_length: u64,
 }
 
-/// Which argument is none of its kind: of `verify`, or `--attrs` of `make`.
+/// Which argument is none of its kind: of `verify`, `--attrs` or `--files-from`.
 #[derive(Clone, Copy, Debug)]
 pub enum ArgumentFault {
     Root,
@@ -31,6 +31,8 @@ pub enum ArgumentFault {
     Proof,
     /// It has no text of letters, or not of these files.
     Attrs,
+    /// The list of files does not end where a path does.
+    Files,
 }
 
 impl fmt::Display for ArgumentFault {
@@ -41,6 +43,7 @@ impl fmt::Display for ArgumentFault {
             ArgumentFault::PieceLength => "bad piece length",
             ArgumentFault::Proof => "bad proof",
             ArgumentFault::Attrs => "bad attrs",
+            ArgumentFault::Files => "bad files",
         })
     }
 }

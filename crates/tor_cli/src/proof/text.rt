@@ -2,13 +2,13 @@
 
 ghost use Rattle.std.specs.Prelude.{◌≡◌, ◌++◌, ◌<◌, ◌≤◌, ◌^◌, ℕ, List, length, flat_map, codes, string_bytes};
 ghost use Rattle.std.specs.Prelude.{IfOk, OnOk, IfSome};
-ghost use Rattle.std.specs.Char.{is_ascii_digit};
-ghost use Rattle.std.specs.List.{All, prefix_len};
+ghost use Rattle.std.specs.List.{All};
 ghost use Rattle.std.specs.Option.{IsSomeAnd};
 ghost use Rattle.tor_cli.specs.proof.ProofText.{IsHash, IsProof, index_line, hash_line, sibling_line, proof_text};
 
 use crate::text::digits::read_hash;
-use crate::text::numbers::read_number;
+use crate::text::fronts::{after, cut};
+use crate::text::numbers::{count_digits, read_number};
 use hex::encode;
 use std::alloc::{AllocError, Global};
 use std::fmt::Write;
@@ -88,18 +88,8 @@ fn read_index(text: &[u8]) -> Option<(u64, &[u8])>
         → IsSomeAnd result (λ r. (r.0 ≡ index) × (r.1.now ≡ rest)) }
 {
     let line = after(b"index ", text)?;
-    let (digits, rest) = cut(line, count_digits(line))?;
+    let (digits, rest) = cut(line, count_digits(line), b"\n")?;
     Some((read_number(digits)?, rest))
-}
-
-/// How many digits come first.
-fn count_digits(bytes: &[u8]) -> usize
-    ensures { result ≡ prefix_len is_ascii_digit bytes.now }
-{
-    bytes
-        .iter()
-        .take_while(|byte| byte.is_ascii_digit())
-        .count()
 }
 
 /// The siblings, a line for each.
@@ -133,24 +123,6 @@ fn read_line<'a>(word: &[u8], text: &'a [u8]) -> Option<(Hash, &'a [u8])>
     ensures read { (hash rest : List ℕ) → IsHash hash → text.now ≡ hash_line word.now hash ++ rest
         → IsSomeAnd result (λ r. (r.0 ≡ hash) × (r.1.now ≡ rest)) }
 {
-    let (digits, rest) = cut(after(word, text)?, 64)?;
+    let (digits, rest) = cut(after(word, text)?, 64, b"\n")?;
     Some((read_hash(digits)?, rest))
-}
-
-/// What comes after a beginning.
-fn after<'a>(beginning: &[u8], text: &'a [u8]) -> Option<&'a [u8]>
-    ensures written { IfSome result (λ rest. text.now ≡ beginning.now ++ rest.now) }
-    ensures read { (rest : List ℕ) → text.now ≡ beginning.now ++ rest → IsSomeAnd result (λ r. r.now ≡ rest) }
-{
-    text.strip_prefix(beginning)
-}
-
-/// The first bytes of a text, so many, and what comes after the line feed that follows them.
-fn cut(text: &[u8], count: usize) -> Option<(&[u8], &[u8])>
-    ensures written { IfSome result (λ r. text.now ≡ r.0.now ++ (codes "\n" ++ r.1.now)) }
-    ensures read { (line rest : List ℕ) → length line ≡ count → text.now ≡ line ++ (codes "\n" ++ rest)
-        → IsSomeAnd result (λ r. (r.0.now ≡ line) × (r.1.now ≡ rest)) }
-{
-    let (line, end) = text.split_at_checked(count)?;
-    Some((line, after(b"\n", end)?))
 }

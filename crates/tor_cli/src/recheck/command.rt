@@ -1,5 +1,5 @@
 //! `tor recheck`: which pieces of the torrent in a file are there and right.
-ghost use Rattle.std.specs.Prelude.{ℕ, List, Option, IfErr, IfOk, string_bytes};
+ghost use Rattle.std.specs.Prelude.{◌≡◌, ℕ, List, [], Option, IfErr, IfOk, string_bytes, true};
 ghost use Rattle.tor_cli.specs.recheck.Recheck.{DoesRecheck, IsNotRechecked, IsRechecked, StopsRechecking};
 ghost use Rattle.tor_cli.specs.steps.Writing.{writing};
 
@@ -8,11 +8,13 @@ use crate::fault::Fault;
 use crate::foreign::read_file;
 use crate::progress::Progress;
 use crate::recheck::source::placed_at;
-use crate::recheck::text::{Report, counted_report};
+use crate::recheck::text::{Report, report_by};
 use crate::recheck::words::RecheckOptions;
+use std::alloc::{AllocError, Global};
 use std::io::Write;
 use std::thread::Threads;
 use tor_meta::write_out;
+use tor_source::FolderSource;
 
 /// Writes which pieces are there and right, and which files, if any are listed; the answer is yes if all pieces are.
 /// Nothing is looked for, nor written, before the torrent was judged.
@@ -46,21 +48,44 @@ fn report_at<T: Threads + Sync>(
         (λ report. IsRechecked options.now bytes.now (string_bytes report.text) report.answer) }
     ensures stopped { IfErr result (IsNotRechecked options.now.workers bytes.now) }
 {
-    let placed = match placed_at(system, options.place, bytes) {
+    let placed = match placed_at(system, options.place, bytes, options.follows_links) {
         Ok(placed) => placed,
         Err(fault) => return Err(fault),
     };
-    let torrent = &placed.torrent;
-    let progress = Progress::shown(system, torrent.files().len(), shows_progress);
-    match counted_report(
+    let files = placed.judged.torrent.files().len();
+    let links = links_of(system.alloc(), &placed.source, files, options.follows_links)?;
+    let progress = Progress::shown(system, files, shows_progress);
+    match report_by(
         rt,
         system.alloc(),
         &placed.source,
-        torrent,
+        &placed.judged,
+        &links,
         options,
         &progress,
     ) {
         Ok(report) => Ok(report),
         Err(error) => Err(Fault::from(error)),
     }
+}
+
+/// The numbers of the files that are not there because of a link; none if links are followed.
+fn links_of(
+    alloc: Global,
+    source: &FolderSource<HostRuntime>,
+    files: usize,
+    follows_links: bool,
+) -> Result<Vec<u64>, AllocError>
+    ensures { follows_links ≡ true → IfOk result (λ links. links.items ≡ []) }
+{
+    let mut links = Vec::new(alloc);
+    if follows_links {
+        return Ok(links);
+    }
+    'files: for file in 0..files {
+        if source.is_behind_link(file) {
+            links.push(file as u64)?;
+        }
+    }
+    Ok(links)
 }

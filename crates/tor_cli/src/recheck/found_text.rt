@@ -3,9 +3,9 @@ ghost use Rattle.std.specs.Prelude.{◌≡◌, ◌++◌, IfOk, OnOk, string_byte
 ghost use Rattle.tor_cli.specs.recheck.FoundFiles.{found_line, is_whole, length_text, state_word, told_of};
 ghost use Rattle.tor_cli.specs.recheck.FoundFiles.{told_of_files};
 
-use crate::check::shown::{path_text, push_path};
 use crate::recheck::listing::Listing;
 use crate::text::escape::escaped;
+use crate::text::paths::{path_text, push_path};
 use std::alloc::{AllocError, Global};
 use std::fmt::Write;
 use tor_check::ViewFile;
@@ -81,6 +81,8 @@ pub fn state_word(state: FileState) -> &'static str
         FileState::Short => "short",
         FileState::Bad => "bad",
         FileState::Whole => "whole",
+        FileState::Unreadable => "unreadable",
+        FileState::Link => "link",
     }
 }
 

@@ -20,17 +20,20 @@ pub enum Listing {
 pub enum Form {
     /// For people, and for tools that go line by line.
     Text,
+    /// The same without the line of bits.
+    Brief,
     /// For programs: one object of JSON (RFC 8259).
     Json,
 }
 
-/// The form that the flag `--json` asks for.
-pub fn form_of(json: bool) -> Form
-    ensures { result ≡ form_of json }
+/// The form that the flags `--brief` and `--json` ask for; they do not stand beside each other.
+pub fn form_of(brief: bool, json: bool) -> Form
+    ensures { result ≡ form_of brief json }
 {
-    match json {
-        true => Form::Json,
-        false => Form::Text,
+    match (brief, json) {
+        (_, true) => Form::Json,
+        (true, false) => Form::Brief,
+        (false, false) => Form::Text,
     }
 }
 

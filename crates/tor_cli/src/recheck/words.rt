@@ -1,13 +1,14 @@
 //! The words of `tor recheck FILE PATH`.
-ghost use Rattle.clap.specs.Words.{app_of, found_of, rows_of, rule_of};
-ghost use Rattle.std.specs.Prelude.{◌≡◌, ◌∷◌, [], IfOk, IfSome, codes, false};
+ghost use Rattle.clap.specs.Words.{app_of, first_of, found_of, rows_of, rule_of};
+ghost use Rattle.std.specs.Prelude.{◌≡◌, ◌∷◌, [], IfOk, IfSome, None, codes, false};
 ghost use Rattle.tor_cli.specs.CommandLine.{flag_bound, recheck_app};
 ghost use Rattle.tor_cli.specs.Words.{IsRecheckIn};
 ghost use Rattle.tor_cli.specs.steps.Bound.{wanted_by};
 
 use crate::recheck::listing::{Form, Listing, form_of, listing_of};
+use crate::recheck::lot_words::part_option;
 use crate::torrent_words::{
-    argument_of, command_with, flag_beside, flag_of, json_option, workers_option,
+    argument_of, command_with, flag_beside, flag_of, flag_without, json_option, workers_option,
 };
 use crate::workers::workers_of;
 use clap::{Arg, ArgMatches, Command};
@@ -25,6 +26,10 @@ pub struct RecheckOptions<'a> {
     pub form: Form,
     /// How many workers hash.
     pub workers: u32,
+    /// What cannot be read is not there, and the rest goes on.
+    pub keeps_going: bool,
+    /// A file is read through links below PATH; if not, one behind a link is not there.
+    pub follows_links: bool,
 }
 
 /// The command `recheck`.
@@ -33,12 +38,18 @@ pub fn recheck_command<'a>(alloc: Global) -> Result<Command<'a>, AllocError>
 {
     let null = null_option(alloc)?;
     let json = json_option(alloc)?;
+    let brief = flag_without(alloc, "brief", "json", BRIEF)?;
+    let part = part_option(alloc)?;
     let words = vec![in alloc;
         flag_of(alloc, "files", FILES),
         flag_of(alloc, "bad", BAD),
         null,
         json,
         workers_option(alloc, DEFAULT_WORKERS, WORKERS),
+        flag_of(alloc, "keep-going", KEEP_GOING),
+        flag_of(alloc, "no-links", NO_LINKS),
+        brief,
+        part,
         argument_of(alloc, "file", 1, "FILE", "The file with the torrent"),
         argument_of(alloc, "path", 2, "PATH", PATH),
     ]?;
@@ -65,6 +76,12 @@ const DEFAULT_WORKERS: &str = "4";
 
 const WORKERS: &str = "How many workers hash: from 1 to 64, or auto";
 
+const KEEP_GOING: &str = "Goes on past what cannot be read, which counts as not there";
+
+const NO_LINKS: &str = "Follows no link below PATH: a file behind one is not there";
+
+const BRIEF: &str = "Leaves out the line of bits";
+
 const PATH: &str = "The file or folder that has the torrent's files";
 
 /// What is to be rechecked, of the words; none if `clap` let through words that have none, as a number of workers that
@@ -73,6 +90,7 @@ pub fn recheck_options<'a, T: Threads>(
     rt: &T,
     matches: &ArgMatches<'a>,
 ) -> Option<RecheckOptions<'a>>
+    requires { first_of (codes "part") (rows_of (found_of matches.now)) ≡ None }
     ensures { IfSome result (λ options. IsRecheckIn options (rows_of (found_of matches.now))) }
 {
     Some(RecheckOptions {
@@ -83,7 +101,9 @@ pub fn recheck_options<'a, T: Threads>(
             matches.get_flag("bad"),
             matches.get_flag("null"),
         ),
-        form: form_of(matches.get_flag("json")),
+        form: form_of(matches.get_flag("brief"), matches.get_flag("json")),
         workers: workers_of(rt, matches.get_str("workers")?)?,
+        keeps_going: matches.get_flag("keep-going"),
+        follows_links: !matches.get_flag("no-links"),
     })
 }

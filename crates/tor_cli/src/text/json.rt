@@ -2,9 +2,9 @@
 ghost use Rattle.serde_json.specs.View.{view};
 ghost use Rattle.serde_json.specs.Written.{has_float};
 ghost use Rattle.std.specs.Prelude.{◌≡◌, IfOk, false, string_bytes};
-ghost use Rattle.tor_cli.specs.text.Records.{path_data, record_line};
+ghost use Rattle.tor_report.specs.Records.{path_data, record_line, sized_data};
 
-use serde_json::Value;
+use serde_json::{Value, json};
 use std::alloc::{AllocError, Global};
 use tor_tree::FilePath;
 
@@ -27,4 +27,12 @@ pub fn path_value(alloc: Global, path: &FilePath) -> Result<Value, AllocError>
         names.push(Value::try_from_str(alloc, name.as_str())?)?;
     }
     Ok(Value::Array(names))
+}
+
+/// A path, and how many bytes its file has.
+pub fn sized_value(alloc: Global, length: u64, path: &FilePath) -> Result<Value, AllocError>
+    ensures { IfOk result (λ value. view value ≡ sized_data length path.now) }
+{
+    let path = path_value(alloc, path)?;
+    json!(in alloc; {"length": length, "path": path})
 }

@@ -1,6 +1,8 @@
 //! Numbers in base ten.
 
 ghost use Rattle.std.specs.Prelude.{◌≡◌, ◌^◌, ◌<◌, ◌↔◌, ℕ, IsTrue, IfSome, Some};
+ghost use Rattle.std.specs.Char.{is_ascii_digit};
+ghost use Rattle.std.specs.List.{prefix_len};
 ghost use Rattle.tor_bencode.specs.Spelling.{base_ten};
 
 use itoa::Buffer;
@@ -32,4 +34,14 @@ fn is_written(n: u64, text: &[u8]) -> bool
     ensures { IsTrue result ↔ (base_ten n ≡ text.now) }
 {
     Buffer::new().format(n).as_bytes() == text
+}
+
+/// How many digits come first.
+pub fn count_digits(bytes: &[u8]) -> usize
+    ensures { result ≡ prefix_len is_ascii_digit bytes.now }
+{
+    bytes
+        .iter()
+        .take_while(|byte| byte.is_ascii_digit())
+        .count()
 }

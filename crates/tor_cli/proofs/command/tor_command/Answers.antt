@@ -18,13 +18,8 @@ returns c =
     ap app_of_fields c.subcommand_required.ensures
     ∙ ap (on_top (λ shape. record shape { subcommand_required = true })) described in
     let top = ap app_of_fields c.in_ok-top.ensures.0 ∙ wanting in
-    let (kinds, hows, are, ways, is) = c.in_ok-over_torrents.ensures in
-    let over = is ∙ ap (λ (app : App). with_commands app (torrent_apps kinds hows)) top in
+    let (parsers, is) = c.in_ok-over_torrents.ensures in
+    let over = is ∙ ap (λ (app : App). with_commands app (torrent_apps parsers)) top in
     IfOk-weaker c.add_piece_commands.result _ _
-    (λ command added. (
-      kinds,
-      hows,
-      are,
-      ways,
-      added ∙ ap (λ (app : App). with_commands app piece_apps) over,
-    )) c.add_piece_commands.ensures
+    (λ command added. (parsers, added ∙ ap (λ (app : App). with_commands app piece_apps) over))
+    c.add_piece_commands.ensures

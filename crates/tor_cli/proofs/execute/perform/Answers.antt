@@ -57,3 +57,53 @@ returns-in-Recheck-clause-done g c =
 pub returns-in-Recheck-clause-stopped : goal.returns-in-Recheck-clause-stopped
 returns-in-Recheck-clause-stopped g c =
     rw c.in-Recheck.is (c.recheck.ensures.stopped (g.R.Read.remaining c.args.reader.now))
+
+pub returns-in-Scan-clause-done : goal.returns-in-Scan-clause-done
+returns-in-Scan-clause-done g c =
+    rw c.in-Scan.is (is_answered _ _ c.scan.result (λ yes. yes) (λ no. no) c.scan.ensures.answered)
+
+pub returns-in-Lot-clause-done : goal.returns-in-Lot-clause-done
+returns-in-Lot-clause-done g c =
+    rw c.in-Lot.is
+    (is_done _ c.lot.result c.done-in-Lot.result c.done-in-Lot.ensures
+    (c.lot.ensures.made (g.R.Read.remaining c.args.reader.now)))
+
+pub returns-in-Lot-clause-stopped : goal.returns-in-Lot-clause-stopped
+returns-in-Lot-clause-stopped g c =
+    rw c.in-Lot.is
+    (is_stopped _ c.lot.result c.done-in-Lot.result c.done-in-Lot.ensures
+    (c.lot.ensures.stopped (g.R.Read.remaining c.args.reader.now)))
+
+pub returns-in-Join-clause-done : goal.returns-in-Join-clause-done
+returns-in-Join-clause-done g c =
+    rw c.in-Join.is
+    (is_done _ c.join.result c.done-in-Join.result c.done-in-Join.ensures
+    (c.join.ensures.made (g.R.Read.remaining c.args.reader.now)))
+
+pub returns-in-Join-clause-stopped : goal.returns-in-Join-clause-stopped
+returns-in-Join-clause-stopped g c =
+    rw c.in-Join.is
+    (is_stopped _ c.join.result c.done-in-Join.result c.done-in-Join.ensures
+    (c.join.ensures.stopped (g.R.Read.remaining c.args.reader.now)))
+
+pub returns-in-Edit-clause-done : goal.returns-in-Edit-clause-done
+returns-in-Edit-clause-done g c =
+    rw c.in-Edit.is
+    (is_done _ c.edit.result c.done-in-Edit.result c.done-in-Edit.ensures
+    (c.edit.ensures.edited (g.R.Read.remaining c.args.reader.now)))
+
+pub returns-in-Edit-clause-stopped : goal.returns-in-Edit-clause-stopped
+returns-in-Edit-clause-stopped g c =
+    rw c.in-Edit.is
+    (is_stopped _ c.edit.result c.done-in-Edit.result c.done-in-Edit.ensures
+    (c.edit.ensures.stopped (g.R.Read.remaining c.args.reader.now)))
+
+pub returns-in-RecheckLot-clause-done : goal.returns-in-RecheckLot-clause-done
+returns-in-RecheckLot-clause-done g c =
+    rw c.in-RecheckLot.is
+    (is_answered _ _ c.recheck_part.result (λ yes. yes) (λ no. no)
+    (c.recheck_part.ensures.answered (g.R.Read.remaining c.args.reader.now)))
+
+pub returns-in-RecheckLot-clause-stopped : goal.returns-in-RecheckLot-clause-stopped
+returns-in-RecheckLot-clause-stopped g c =
+    rw c.in-RecheckLot.is (c.recheck_part.ensures.stopped (g.R.Read.remaining c.args.reader.now))

@@ -1,5 +1,5 @@
 -- The bytes have one tree.
-use Rattle.std.proofs.Common.{◌≡◌, ◌∙◌, [], append-nil, ap, sym}
+use Rattle.std.proofs.Common.{◌∙◌, [], append-nil, ap, sym}
 use Rattle.tor_bencode.specs.Data.{Data}
 use Rattle.tor_bencode.specs.RefView.{view}
 use Rattle.tor_bencode.specs.Spelling.{spelling}

@@ -2,7 +2,7 @@
 use Rattle.std.proofs.Common.{◌≡◌, ◌∷◌, ◌++◌, ◌∙◌, ap, refl}
 use Rattle.tor_tree.specs.Name.{has_byte}
 use Rattle.tor_tree.specs.Letters.{letters}
-use Rattle.tor_cli.specs.check.Shown.{path_text}
+use Rattle.tor_report.specs.Shown.{path_text}
 use Rattle.tor_cli.proofs.AttrsLines.{in_names, in_path, line_apart, line_whole, path_text-split, split-path}
 use Rattle.tor_cli.proofs.AttrsLines.{whole_letters}
 use Rattle.tor_cli.proofs.make.attrs_text.read_line.Goals as goal

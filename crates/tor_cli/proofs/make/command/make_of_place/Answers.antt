@@ -1,20 +1,16 @@
--- Nothing was written, or a front of the torrent.
-use Rattle.std.proofs.Common.{refl}
-use Rattle.std.proofs.lemmas.Result.{err_from_is_err_and}
-use Rattle.tor_cli.proofs.Stops.{stops_sending}
+-- The list was read before.
+use Rattle.std.proofs.Common.{inr, option_map}
+use Rattle.std.proofs.lemmas.Result.{IfErr-weaker, IfOk-weaker}
 use Rattle.tor_cli.proofs.make.command.make_of_place.Goals as goal
 
-pub returns-in_err-torrent-clause-stopped : goal.returns-in_err-torrent-clause-stopped
-returns-in_err-torrent-clause-stopped g c reader =
-    let p = err_from_is_err_and c.from_residual.result c.from_residual.ensures.1 in
-    rw (p.1, p.2) (stops_sending c.args.options.now _ c.in_err-torrent.field-0.0 c.in_err-torrent.ensures.stopped
-    (refl {a = reader}, refl))
+pub returns-clause-made : goal.returns-clause-made
+returns-clause-made g c =
+    let chosen = option_map (λ paths. paths.items) c.in_ok-chosen.chosen in
+    IfOk-weaker c.make_of_files.result _ _ (λ _ does. (chosen, c.in_ok-chosen.ensures.chosen, does))
+    (c.make_of_files.ensures.made (g.R.Read.remaining c.chosen_files.new.reader))
 
-pub returns-in_err-send-clause-stopped : goal.returns-in_err-send-clause-stopped
-returns-in_err-send-clause-stopped g c reader =
-    let p = err_from_is_err_and c.from_residual-in_err-send.result c.from_residual-in_err-send.ensures.1 in
-    let made = c.in_ok-torrent.ensures in
-    rw (p.1, p.2) (
-      refl {a = reader},
-      (c.in_ok-torrent.torrent.items, made.made, (rw c.deref.ensures.value at c.in_err-send.ensures.part) made.some),
-    )
+pub returns-clause-stopped : goal.returns-clause-stopped
+returns-clause-stopped g c =
+    let chosen = option_map (λ paths. paths.items) c.in_ok-chosen.chosen in
+    IfErr-weaker c.make_of_files.result _ _ (λ fault why. inr (chosen, c.in_ok-chosen.ensures.chosen, why))
+    (c.make_of_files.ensures.stopped (g.R.Read.remaining c.chosen_files.new.reader))

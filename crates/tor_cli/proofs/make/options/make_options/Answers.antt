@@ -1,35 +1,34 @@
 -- What the getters give are the values in the rows.
 use Rattle.std.proofs.Common.{◌∙◌, sym, codes}
 use Rattle.clap.specs.Words.{found_of}
-use Rattle.clap.proofs.WalkLemmas.{first_value-rows, one_text-rows}
-use Rattle.tor_cli.proofs.FoundTexts.{found_flag, found_text}
+use Rattle.clap.proofs.WalkLemmas.{first_value-rows}
+use Rattle.tor_cli.proofs.FoundTexts.{found_flag}
 use Rattle.tor_cli.proofs.make.options.make_options.Goals as goal
 
 pub returns : goal.returns
 returns g c =
     let found = found_of c.args.matches.now in
+    let torrent = c.in_ok-torrent.ensures.asked in
     record {
-      kind = c.in_ok-kind_in.ensures;
-      name =
-          found_text found (codes "name") c.get_str.result c.in_ok-get_str.field-0 c.get_str.ensures
-          c.in_ok-get_str.was;
-      piece_length = c.in_ok-piece_length_in.ensures.word;
-      has_files = c.in_ok-piece_length_in.ensures.files;
-      announce = sym (first_value-rows found (codes "announce")) ∙ sym c.get_str-2.ensures;
-      is_private = λ is. c.get_flag.ensures.value (one_text-rows found (codes "private") ∙ is);
-      is_public = λ is. c.get_flag.ensures.other (one_text-rows found (codes "private") ∙ is);
-      tail = λ given is.
-          found_flag found (codes "tail") c.get_flag-2.result given c.get_flag-2.ensures.value
-          c.get_flag-2.ensures.other is;
+      torrent = record {
+        kind = torrent.kind;
+        name = torrent.name;
+        piece_length = torrent.piece_length;
+        has_files = torrent.has_files;
+        announce = torrent.announce;
+        is_private = torrent.is_private;
+        is_public = torrent.is_public;
+        tail = torrent.tail;
+        span = torrent.span;
+        out = torrent.out;
+        attrs = torrent.attrs;
+        list = torrent.list;
+      };
       way = c.in_ok-way_in.ensures.word;
       workers = c.in_ok-way_in.ensures.workers;
-      span = λ text is.
-          let read = c.in_ok-get_one.ensures.value text (one_text-rows found (codes "span") ∙ is) in
-          (read.0.0.0, read.0.1);
       check_after = λ given is.
-          found_flag found (codes "check-after") c.get_flag-3.result given c.get_flag-3.ensures.value
-          c.get_flag-3.ensures.other is;
-      out = sym (first_value-rows found (codes "out")) ∙ sym c.get_str-3.ensures;
-      place = sym (first_value-rows found (codes "path")) ∙ sym c.get_str-4.ensures;
-      attrs = sym (first_value-rows found (codes "attrs")) ∙ sym c.get_str-5.ensures;
+          found_flag found (codes "check-after") c.get_flag.result given c.get_flag.ensures.value
+          c.get_flag.ensures.other is;
+      place = sym (first_value-rows found (codes "path")) ∙ sym c.get_str.ensures;
+      whole = c.requires;
     }

@@ -3,7 +3,7 @@ use Rattle.std.proofs.Common.{ℕ, length, subst}
 use Rattle.tor_recheck.specs.Recheck.{IsGiven}
 use Rattle.tor_recheck.specs.declared.errors.RecheckError.TheVariants.{Workers}
 use Rattle.tor_source.specs.Answers.{system_answers}
-use Rattle.tor_cli.proofs.Rechecking.{err_is, not_rechecked, places_count, unplaced}
+use Rattle.tor_cli.proofs.Rechecking.{err_is, not_rechecked, places_count, told_of, unplaced}
 use Rattle.tor_cli.proofs.recheck.command.report_at.Goals as goal
 
 pub returns-in-Err-clause-stopped : goal.returns-in-Err-clause-stopped
@@ -12,13 +12,13 @@ returns-in-Err-clause-stopped g c =
 
 pub returns-clause-stopped : goal.returns-clause-stopped
 returns-clause-stopped g c =
-    let view = c.in-Ok.placed.torrent in
+    let view = c.in-Ok.placed.judged.torrent in
     let source = c.in-Ok.placed.source in
-    let error = c.in-Err-counted_report.error in
+    let error = c.in-Err-report_by.error in
     let count = places_count c.args.options.now.place.now view source c.in-Ok.ensures.placed in
     rw c.from.ensures
-    (not_rechecked c.args.bytes.now view c.in-Ok.ensures.told c.args.options.now.workers error
+    (not_rechecked c.args.bytes.now view (told_of c.in-Ok.ensures.told) c.args.options.now.workers error
     (subst (λ (n : ℕ). IsGiven (system_answers n) (length view.files) error) count
-    c.in-Err-counted_report.ensures.gave)
-    c.in-Err-counted_report.ensures.allowed
-    (λ none. err_is error Workers _ c.in-Err-counted_report.is (c.counted_report.ensures.refused none)))
+    c.in-Err-report_by.ensures.gave)
+    c.in-Err-report_by.ensures.allowed
+    (λ none. err_is error Workers _ c.in-Err-report_by.is (c.report_by.ensures.refused none)))

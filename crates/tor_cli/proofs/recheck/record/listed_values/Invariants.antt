@@ -7,4 +7,4 @@ use Rattle.tor_cli.proofs.recheck.record.listed_values.Given as goal
 
 abbrev pub invariant-files : goal.invariant-files
 invariant-files l =
-    IsOfFirst (listed_pair l.listing) l.found l.files [] (length l.yielded) (map view l.values.items)
+    IsOfFirst (listed_pair l.listing) l.told l.files [] (length l.yielded) (map view l.values.items)

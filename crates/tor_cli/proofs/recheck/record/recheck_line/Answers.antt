@@ -8,4 +8,5 @@ use Rattle.tor_cli.proofs.recheck.record.recheck_line.Goals as goal
 pub line_of-requires : goal.line_of-requires
 line_of-requires c =
     ap (λ (told : Data). has_float told) c.in_ok-findings_value.ensures
-    ∙ no_float_in_findings c.args.listing c.args.torrent.now c.args.findings.now.bits c.args.findings.now.files.items
+    ∙ no_float_in_findings c.args.listing c.args.judged.now.torrent c.args.judged.now.hashes c.args.bits.now
+    c.args.told.now

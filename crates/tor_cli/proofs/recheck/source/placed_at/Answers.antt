@@ -1,7 +1,7 @@
 -- Why there is none is that of the torrent that was judged.
 use Rattle.tor_cli.specs.Status.{of_refusal}
 use Rattle.tor_cli.proofs.Judging.{no_torrent}
-use Rattle.tor_cli.proofs.Rechecking.{not_judged, not_placed}
+use Rattle.tor_cli.proofs.Rechecking.{not_judged, not_placed, told_of}
 use Rattle.tor_cli.proofs.recheck.source.placed_at.Goals as goal
 
 pub returns-in-Err-clause-stopped : goal.returns-in-Err-clause-stopped
@@ -13,5 +13,5 @@ returns-in-Err-clause-stopped c =
 pub returns-in-Err-source_at-clause-stopped : goal.returns-in-Err-source_at-clause-stopped
 returns-in-Err-source_at-clause-stopped c =
     rw c.from-in-Err-source_at.ensures
-    (not_placed c.args.bytes.now c.in-Ok.torrent c.in-Ok.ensures.accepted c.in-Err-source_at.fault
+    (not_placed c.args.bytes.now c.in-Ok.judged.torrent (told_of c.in-Ok.ensures.accepted) c.in-Err-source_at.fault
     c.in-Err-source_at.ensures.refused)

@@ -20,12 +20,28 @@ returns c =
               c.workers_option.ensures.rule,
               c.workers_option.ensures.local,
               (
-                c.argument_of.ensures.rule,
-                c.argument_of.ensures.local,
+                c.flag_of-3.ensures.rule,
+                c.flag_of-3.ensures.local,
                 (
-                  c.argument_of-2.ensures.rule,
-                  c.argument_of-2.ensures.local,
-                  tt,
+                  c.flag_of-4.ensures.rule,
+                  c.flag_of-4.ensures.local,
+                  (
+                    c.in_ok-brief.ensures.rule,
+                    c.in_ok-brief.ensures.local,
+                    (
+                      c.in_ok-part.ensures.rule,
+                      c.in_ok-part.ensures.local,
+                      (
+                        c.argument_of.ensures.rule,
+                        c.argument_of.ensures.local,
+                        (
+                          c.argument_of-2.ensures.rule,
+                          c.argument_of-2.ensures.local,
+                          tt,
+                        ),
+                      ),
+                    ),
+                  ),
                 ),
               ),
             ),

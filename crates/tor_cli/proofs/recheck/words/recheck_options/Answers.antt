@@ -1,5 +1,5 @@
 -- What the getters give are the values in the rows.
-use Rattle.std.proofs.Common.{codes, ◌∙◌, refl}
+use Rattle.std.proofs.Common.{ap, codes, not, ◌∙◌, refl}
 use Rattle.clap.specs.Words.{found_of}
 use Rattle.tor_cli.proofs.FoundTexts.{found_flag, found_text}
 use Rattle.tor_cli.proofs.recheck.words.recheck_options.Goals as goal
@@ -25,11 +25,21 @@ returns g c =
           found_flag found (codes "null") c.get_flag-3.result null c.get_flag-3.ensures.value
           c.get_flag-3.ensures.other is_null in
           c.listing_of.ensures ∙ rw (same_files, same_bad, same_null) refl;
-      form = λ json is_json.
-          let same =
-          found_flag found (codes "json") c.get_flag-4.result json c.get_flag-4.ensures.value
-          c.get_flag-4.ensures.other is_json in
-          c.form_of.ensures ∙ rw same refl;
+      form = λ brief json is_brief is_json.
+          let same_brief =
+          found_flag found (codes "brief") c.get_flag-4.result brief c.get_flag-4.ensures.value
+          c.get_flag-4.ensures.other is_brief in
+          let same_json =
+          found_flag found (codes "json") c.get_flag-5.result json c.get_flag-5.ensures.value
+          c.get_flag-5.ensures.other is_json in
+          c.form_of.ensures ∙ rw (same_brief, same_json) refl;
+      keeps_going = λ given is.
+          found_flag found (codes "keep-going") c.get_flag-6.result given c.get_flag-6.ensures.value
+          c.get_flag-6.ensures.other is;
+      follows_links = λ given is.
+          ap not (found_flag found (codes "no-links") c.get_flag-7.result given c.get_flag-7.ensures.value
+          c.get_flag-7.ensures.other is);
+      whole = c.requires;
       workers = (
         c.in_ok-get_str-3.field-0.now,
         c.in_ok-workers_of.field-0,

@@ -7,7 +7,7 @@ use Rattle.std.proofs.lemmas.List.{append-nil, map-id}
 use Rattle.std.proofs.lemmas.Str.{encodes-append, encodes-chars}
 use Rattle.std.proofs.Math.Utf8.{encode}
 use Rattle.std.specs.Str.{encode_utf8_all}
-use Rattle.tor_cli.specs.text.Escape.{escape, escaped}
+use Rattle.tor_report.specs.Escape.{escape, escaped}
 use Rattle.tor_cli.proofs.text.escape.escaped.Goals as goal
 
 one_more : (cs : List ℕ) (c : ℕ)

@@ -2,7 +2,7 @@
 use Rattle.std.proofs.Common.{◌≡◌}
 use Rattle.std.specs.Prelude.{string_bytes}
 use Rattle.std.specs.Str.{encode_utf8_all}
-use Rattle.tor_cli.specs.text.Escape.{escaped}
+use Rattle.tor_report.specs.Escape.{escaped}
 use Rattle.tor_cli.proofs.text.escape.escaped.Given as goal
 
 abbrev pub invariant-loop-c : goal.invariant-loop-c

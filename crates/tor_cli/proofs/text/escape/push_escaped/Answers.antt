@@ -1,7 +1,7 @@
 -- A character that is not written out keeps its bytes.
 use Rattle.std.proofs.Common.{◌≡◌, ◌∙◌, sym, rules}
 use Rattle.std.specs.Char.{encode_utf8}
-use Rattle.tor_cli.specs.text.Escape.{escaped}
+use Rattle.tor_report.specs.Escape.{escaped}
 use Rattle.tor_cli.proofs.Escapes.{plain_char}
 use Rattle.tor_cli.proofs.text.escape.push_escaped.Goals as goal
 

@@ -1,0 +1,3 @@
+pub mod Inventory
+pub mod ScanText
+pub mod Scanning

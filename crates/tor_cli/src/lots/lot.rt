@@ -1,0 +1,101 @@
+//! `tor make --plan PLAN --part K/N PATH`: its doing.
+ghost use Rattle.std.specs.Prelude.{◌≡◌, ◌<◌, ◌⊎◌, ℕ, List, Option, IfErr, IfOk, OnOk, length};
+ghost use Rattle.tor_cli.specs.lots.Lots.{DoesLot, IsLotAt, IsNoLot, StopsLot, file_of_lot, places_of_list};
+ghost use Rattle.tor_cli.specs.steps.Writing.{writing};
+ghost use Rattle.tor_tree.specs.FileList.{paths_of};
+
+use crate::fault::Fault;
+use crate::foreign::read_file;
+use crate::lots::lot_words::LotOptions;
+use crate::make::out_file::{refuse_out_among_files, refuse_unwritable};
+use crate::progress::{Counting, Progress, erase};
+use crate::whole_file::{send_whole, whole_file};
+use std::alloc::AllocError;
+use std::io::Write;
+use std::thread::Threads;
+use tor_meta::{Listing, MakeError, make_lot, read_plan};
+use tor_source::FolderSource;
+use tor_tree::copy_paths;
+
+/// Hashes one lot of a plan, and writes it. Nothing is looked for, nor written, before the plan was judged; and nothing
+/// is hashed that could not be written, or whose file is one of the plan's own.
+pub fn lot<T: Threads + Sync, W: Write>(
+    rt: &T,
+    system: &HostRuntime,
+    options: &LotOptions<'_>,
+    out: &mut W,
+    shows_progress: bool,
+) -> Result<(), Fault>
+    ensures made { (reader : Option (List ℕ)) → OnOk result (DoesLot options.now (writing reader
+        (W.contents out.old) (W.contents out.new))) }
+    ensures stopped { (reader : Option (List ℕ)) → IfErr result (StopsLot options.now (writing reader
+        (W.contents out.old) (W.contents out.new))) }
+{
+    let alloc = system.alloc();
+    let plan = read_file(alloc, system, options.plan)?;
+    let bytes = lot_of_plan(rt, system, &plan, options, shows_progress)?;
+    let file = whole_file(system, options.out)?;
+    Ok(send_whole(system, out, &file, &bytes)?)
+}
+
+/// The bytes of the lot of the plan that has these bytes.
+fn lot_of_plan<T: Threads + Sync>(
+    rt: &T,
+    system: &HostRuntime,
+    plan: &[u8],
+    options: &LotOptions<'_>,
+    shows_progress: bool,
+) -> Result<Vec<u8>, Fault>
+    ensures made { IfOk result (λ bytes. IsLotAt options.now.lot plan.now bytes.items) }
+    ensures some { IfOk result (λ bytes. 0 < length bytes.items) }
+    ensures stopped { IfErr result (IsNoLot options.now.how (file_of_lot options.now) plan.now) }
+{
+    let alloc = system.alloc();
+    if !options.how.is_allowed() {
+        return Err(Fault::Make(MakeError::Workers));
+    }
+    let listing = read_plan(alloc, plan)?;
+    let source = source_of(system, options.place, &listing)?;
+    refuse_out_among_files(system, options.out, &source)?;
+    refuse_unwritable(system, options.out)?;
+    let progress = Progress::shown(system, listing.list().files().len(), shows_progress);
+    let counting = Counting {
+        source: &source,
+        files: &[],
+        progress: &progress,
+    };
+    let made = make_lot(
+        rt,
+        alloc,
+        &counting,
+        &listing,
+        plan,
+        options.lot.lots,
+        options.lot.number,
+        options.how,
+    );
+    erase(&progress);
+    match made {
+        Ok(bytes) => Ok(bytes),
+        Err(error) => Err(Fault::from(MakeError::from(error))),
+    }
+}
+
+/// The files of a listing at a place: the one file that it is of, or those below the folder.
+fn source_of(
+    system: &HostRuntime,
+    place: &str,
+    listing: &Listing,
+) -> Result<FolderSource<HostRuntime>, AllocError>
+    ensures count { IfOk result (λ source. length source ≡ length listing.now.list.files) }
+    ensures places { IfOk result (λ source. source
+        ≡ places_of_list place.now listing.now.head.single (paths_of listing.now.list.files)) }
+{
+    let alloc = system.alloc();
+    let files = listing.list().files();
+    if listing.head().single && files.len() == 1 {
+        return FolderSource::single(system, alloc, place);
+    }
+    let paths = copy_paths(alloc, files)?;
+    FolderSource::at(system, alloc, place, paths)
+}

@@ -1,0 +1,61 @@
+//! The words of `tor recheck --part K/N FILE PATH`.
+ghost use Rattle.clap.specs.Words.{found_of, rows_of, rule_of};
+ghost use Rattle.std.specs.Prelude.{◌≡◌, ◌∷◌, [], IfOk, IfSome, codes, false};
+ghost use Rattle.tor_cli.specs.CommandLine.{bound, option_of};
+ghost use Rattle.tor_cli.specs.Words.{IsLotRecheckIn};
+ghost use Rattle.tor_cli.specs.steps.Bound.{shut_out_by};
+
+use crate::lots::lot_number::LotNumber;
+use crate::lots::number::lot_of;
+use crate::recheck::listing::{Form, form_of};
+use crate::torrent_words::{not_beside, option_of};
+use crate::workers::workers_of;
+use clap::{Arg, ArgMatches};
+use std::alloc::{AllocError, Global};
+use std::thread::Threads;
+
+/// Which lot of which torrent is rechecked, against what, and what is printed of it.
+#[derive(Clone, Copy)]
+pub struct LotRecheckOptions<'a> {
+    /// The file with the torrent.
+    pub torrent: &'a str,
+    /// The file or folder that has the torrent's files.
+    pub place: &'a str,
+    pub lot: LotNumber,
+    pub form: Form,
+    /// How many workers hash.
+    pub workers: u32,
+    /// A file is read through links below PATH; if not, one behind a link is not there.
+    pub follows_links: bool,
+}
+
+const PART: &str =
+    "Looks for the pieces of one part of so many alone, as 0/16: parts are counted from 0";
+
+/// The option that asks for one lot, which tells of no file.
+pub fn part_option<'a>(alloc: Global) -> Result<Arg<'a>, AllocError>
+    ensures rule { IfOk result (λ option. rule_of option ≡ bound (option_of (codes "part"))) }
+    ensures local { IfOk result (λ option. option.global ≡ false) }
+    ensures others { IfOk result
+        (λ option. shut_out_by option ≡ codes "files" ∷ codes "bad" ∷ codes "keep-going" ∷ []) }
+{
+    let part = option_of(alloc, "part", "K/N", PART).conflicts_with("files")?;
+    not_beside(part, &["bad", "keep-going"])
+}
+
+/// What is to be rechecked, of the words; none if they name no lot, or no number of workers.
+pub fn lot_recheck_options<'a, T: Threads>(
+    rt: &T,
+    matches: &ArgMatches<'a>,
+) -> Option<LotRecheckOptions<'a>>
+    ensures { IfSome result (λ options. IsLotRecheckIn options (rows_of (found_of matches.now))) }
+{
+    Some(LotRecheckOptions {
+        torrent: matches.get_str("file")?,
+        place: matches.get_str("path")?,
+        lot: lot_of(matches.get_str("part")?)?,
+        form: form_of(matches.get_flag("brief"), matches.get_flag("json")),
+        workers: workers_of(rt, matches.get_str("workers")?)?,
+        follows_links: !matches.get_flag("no-links"),
+    })
+}

@@ -1,0 +1,179 @@
+//! A file that appears whole or not at all.
+ghost use Rattle.std.specs.Prelude.{◌≡◌, ◌<◌, IfErr, IfOk, OnOk, length, option_map, string_bytes};
+ghost use Rattle.tor_cli.specs.steps.WholeFiles.{place_of_whole};
+ghost use Rattle.tor_cli.specs.make.Request.{Sends, SendsFront};
+
+use crate::foreign::read_file;
+use crate::make::out_file::write_file;
+use std::alloc::{AllocError, Global};
+use std::fs::{self, File};
+use std::io::{self, ErrorKind, Write};
+use std::rt::Files;
+use tor_meta::{WriteFault, write_out};
+
+/// A file, and the beginning of the name of the one beside it that is written first. There is none for what is no file,
+/// as a link, a FIFO or a device: bytes go into it as they are written.
+#[derive(Drop)]
+pub struct WholeFile {
+    place: String,
+    beside: Option<String>,
+}
+
+/// The file that the bytes are to go to; none if they go to standard output.
+pub fn whole_file(
+    system: &HostRuntime,
+    place: Option<&str>,
+) -> Result<Option<WholeFile>, AllocError>
+    ensures { IfOk result (λ file. option_map place_of_whole file ≡ option_map (λ name. name.now) place.entry) }
+{
+    match place {
+        Some(place) => Ok(Some(WholeFile {
+            place: String::from_str(system.alloc(), place)?,
+            beside: beside_of(system, place)?,
+        })),
+        None => Ok(None),
+    }
+}
+
+/// The beginning of the name of the file that is written first: it has the names of this host and this process. None if
+/// what stands at the place is no file, or a link: it is not to be replaced.
+fn beside_of(system: &HostRuntime, place: &str) -> Result<Option<String>, AllocError> {
+    let alloc = system.alloc();
+    match system.symlink_metadata(place) {
+        Ok(found) if !found.is_file() => Ok(None),
+        _ => {
+            let host = host_name(system)?;
+            let process = process_name(system)?;
+            Ok(Some(format!(in alloc; "{place}.{host}.{process}")?))
+        }
+    }
+}
+
+/// The name of this host, as the system tells it.
+fn host_name(system: &HostRuntime) -> Result<String, AllocError> {
+    let alloc = system.alloc();
+    match read_file(alloc, system, "/proc/sys/kernel/hostname") {
+        Ok(bytes) => match std::str::from_utf8(&bytes) {
+            Ok(name) => String::from_str(alloc, name.trim()),
+            Err(_) => String::from_str(alloc, "host"),
+        },
+        Err(_) => String::from_str(alloc, "host"),
+    }
+}
+
+/// The number of this process, as the system tells it.
+fn process_name(system: &HostRuntime) -> Result<String, AllocError> {
+    let alloc = system.alloc();
+    match system.read_link(alloc, "/proc/self") {
+        Ok(path) => match path.as_path().to_str() {
+            Some(name) => String::from_str(alloc, name),
+            None => String::from_str(alloc, "process"),
+        },
+        Err(_) => String::from_str(alloc, "process"),
+    }
+}
+
+/// Writes the bytes into the file, which appears whole or not at all, or to `out` if there is none.
+pub fn send_whole<W: Write>(
+    system: &HostRuntime,
+    out: &mut W,
+    file: &Option<WholeFile>,
+    bytes: &[u8],
+) -> Result<(), WriteFault>
+    ensures whole { OnOk result (Sends (option_map place_of_whole file.now)
+        (W.contents out.old) (W.contents out.new) bytes.now) }
+    ensures part { 0 < length bytes.now → IfErr result (λ fault. SendsFront (option_map place_of_whole file.now)
+        (W.contents out.old) (W.contents out.new) fault.written bytes.now) }
+{
+    match file {
+        None => write_out(out, bytes),
+        Some(file) => write_whole(system, file, bytes),
+    }
+}
+
+/// Writes the bytes into the file. If that fails none of them is there.
+fn write_whole(system: &HostRuntime, file: &WholeFile, bytes: &[u8]) -> Result<(), WriteFault>
+    ensures { IfErr result (λ fault. 0 < length bytes.now → fault.written < length bytes.now) }
+{
+    let Some(beside) = &file.beside else {
+        return write_file(system, &file.place, bytes);
+    };
+    match write_and_rename(system, beside, &file.place, bytes) {
+        Ok(()) => Ok(()),
+        Err(fault) => Err(WriteFault {
+            written: 0,
+            fault: Some(fault),
+        }),
+    }
+}
+
+fn write_and_rename(
+    system: &HostRuntime,
+    beside: &str,
+    place: &str,
+    bytes: &[u8],
+) -> io::Result<()> {
+    let (unfinished, file) = new_file(system, beside)?;
+    match fill_and_rename(system, file, &unfinished, place, bytes) {
+        Ok(()) => Ok(()),
+        Err(fault) => {
+            let _ = system.remove_file(unfinished.as_str());
+            Err(fault)
+        }
+    }
+}
+
+/// A new file, and its name, of which no other process has one: two with one name for their host and one number, as in
+/// containers, and one that was killed, leave theirs as they are.
+fn new_file(system: &HostRuntime, beside: &str) -> io::Result<(String, File)> {
+    'numbers: for number in 0..MAX_UNFINISHED {
+        let name = unfinished_name(system, beside, number)?;
+        match File::create_new(system, name.as_str()) {
+            Ok(file) => return Ok((name, file)),
+            Err(fault) if fault.kind() == ErrorKind::AlreadyExists => {}
+            Err(fault) => return Err(fault),
+        }
+    }
+    Err(io::Error::from(ErrorKind::AlreadyExists))
+}
+
+const MAX_UNFINISHED: u32 = 1000;
+
+fn unfinished_name(system: &HostRuntime, beside: &str, number: u32) -> Result<String, AllocError> {
+    let alloc = system.alloc();
+    if number == 0 {
+        return format!(in alloc; "{beside}.unfinished");
+    }
+    format!(in alloc; "{beside}.{number}.unfinished")
+}
+
+/// Writes the bytes into the new file, which takes the place, and the rights, of the old one.
+fn fill_and_rename(
+    system: &HostRuntime,
+    file: File,
+    unfinished: &str,
+    place: &str,
+    bytes: &[u8],
+) -> io::Result<()> {
+    let mut file = file;
+    if let Ok(old) = system.metadata(place) {
+        file.set_permissions(old.permissions())?;
+    }
+    file.write_all(bytes)?;
+    file.sync_all()?;
+    system.rename(unfinished, place)?;
+    sync_folder_of(system, place)
+}
+
+/// Has the system keep the new name, if it can: some file systems sync no folder.
+fn sync_folder_of(system: &HostRuntime, place: &str) -> io::Result<()> {
+    let folder = match place.rsplit_once('/') {
+        Some(("", _)) => "/",
+        Some((folder, _)) => folder,
+        None => ".",
+    };
+    if let Ok(opened) = fs::open(system, folder) {
+        let _ = opened.sync_all();
+    }
+    Ok(())
+}
