@@ -172,7 +172,7 @@ def other_cases(place):
     given = place / 'file'
     yield Case(['make', '--name', '..'], refused('N3 DotDot'), given=given)
     yield Case(['make', '--foo'], refused("unexpected argument '--foo'; see 'tor make --help'", 2), given=given)
-    yield Case(['--version'], right_of(b'tor 1.1.0\n'))
+    yield Case(['--version'], right_of(b'tor 1.2.0\n'))
     for how in ['halves', 'board', 'streams']:
         yield make_case(place, 'v2', (how, 64), False, None)
 

@@ -6,9 +6,10 @@ import os
 import shutil
 import struct
 import subprocess
+import time
 from pathlib import Path
 
-from support import Failure, Told, expect_equal, expect_told
+from support import Failure, Skipped, Told, expect_equal, expect_told
 
 ROOT = Path(__file__).resolve().parent.parent
 PLACES = ['bin/tor', 'share/man/man1/tor.1', 'share/bash-completion/completions/tor',
@@ -32,20 +33,32 @@ class Clone:
         main.write_text('fn main() {}\n')
         (self.root / 'crates.txt').write_text('tor:\n')
         (self.root / 'HANDLES').write_text('Handles allowed: none.\n')
+        self.pack(program)
+        self.digest = self.run('tor', '--sources').out.decode().strip()
+        self.name(program)
+
+    def pack(self, program):
+        """Has this program in its dist/, for each processor."""
         for processor in ['v2', 'v3']:
             (self.root / 'dist' / f'tor-x86-64-{processor}.gz').write_bytes(gzip.compress(program, 1))
-        self.digest = self.run('tor', '--sources').out.decode().strip()
-        (self.root / 'dist' / 'built-from').write_text(self.digest + '\n')
 
-    def run(self, name, *words, data=b'', path=None):
-        """Runs one of its scripts; commands are looked for in the folder `path` first."""
-        environment = {**os.environ, 'PATH': f'{path}:{PATH}' if path else PATH, 'TMPDIR': str(self.temporary), 'LC_ALL': 'C'}
-        done = subprocess.run([self.root / name, *words], input=data, capture_output=True, timeout=60, check=False,
-                              env=environment)
+    def name(self, program):
+        """Names the sources and this program in dist/built-from."""
+        digest = hashlib.sha256(program).hexdigest()
+        (self.root / 'dist' / 'built-from').write_text(
+            f'{self.digest}\na toolchain\nC library {"0" * 64}\nx86-64-v2 {digest}\nx86-64-v3 {digest}\n')
+
+    def run(self, name, *words, data=b'', path=None, by=(), where=None, environment=None):
+        """Runs one of its scripts, by a command that has more words after it; other commands are looked for in the
+        folder `path` first. What is None in the environment is not in it."""
+        variables = {**os.environ, 'PATH': f'{path}:{PATH}' if path else PATH, 'TMPDIR': str(self.temporary),
+                     'LC_ALL': 'C', **(environment or {})}
+        done = subprocess.run([*by, self.root / name, *words], input=data, capture_output=True, timeout=60, check=False,
+                              cwd=where, env={name: value for name, value in variables.items() if value is not None})
         return Told(done.returncode, done.stdout, done.stderr)
 
-    def expect(self, wanted, name, *words, data=b'', path=None):
-        told = self.run(name, *words, data=data, path=path)
+    def expect(self, wanted, name, *words, **more):
+        told = self.run(name, *words, **more)
         expect_told([f'({name})', *words], wanted, told)
         return told
 
@@ -113,9 +126,11 @@ def test_program_that_does_not_start(program, folder):
 
 def test_program_unpacked_elsewhere(program, folder):
     """What another machine has unpacked, and does not start on this one: dist/install sees it."""
+    bad = with_first_instruction(Path(program).read_bytes(), b'\x0f\x0b')
     clone = Clone(folder, Path(program).read_bytes())
     place = Path(clone.run('tor', '--where').out.decode().strip())
-    place.write_bytes(with_first_instruction(place.read_bytes(), b'\x0f\x0b'))
+    clone.name(bad)
+    place.write_bytes(bad)
     expect_not_started(clone, b'it ends with status 132\n', 'dist/install', str(folder / 'prefix'))
 
 
@@ -149,7 +164,7 @@ def test_program_that_starts(program, folder):
     clone = Clone(folder, Path(program).read_bytes())
     place = clone.run('tor', '--where').out.decode().strip()
     expect_equal('the program', True, Path(place).read_bytes() == Path(program).read_bytes())
-    clone.expect(Told(0, b'tor 1.1.0\n', b''), 'tor', '--version')
+    clone.expect(Told(0, b'tor 1.2.0\n', b''), 'tor', '--version')
     clone.expect(Told(3, b'', b'tor: read fault\n'), 'tor', 'check', str(folder / 'absent'))
     clone.expect(Told(1, b'', b'tor: N3 DotDot\n'), 'tor', 'make', '--name', '..', data=b'ab')
     shutil.rmtree(clone.root / 'out')
@@ -162,6 +177,490 @@ def test_program_that_starts(program, folder):
     (clone.root / 'dist' / 'built-from').write_text('0' * 64 + '\n')
     clone.expect(Told(70, b'', b'tor: ' + wanted), 'dist/install', str(folder / 'prefix'))
     expect_equal('what is left', ([], []), clone.left())
+
+
+def script(folder, name='log'):
+    """A program that tells its words in a file, and the file."""
+    return f'#!/bin/sh\necho "$*" >>{folder / name}\n'.encode(), folder / name
+
+
+def unpacked(clone):
+    """Where the program lies that the clone has unpacked."""
+    return next((clone.root / 'out').glob('tor.*'))
+
+
+def with_seen(clone):
+    """The clone, once it has kept what it saw; just made files are too young for that."""
+    time.sleep(3.1)
+    clone.run('tor', '--version')
+    clone.run('tor', '--version')
+    expect_equal('what was seen is kept', 1, len(list((clone.root / 'out').glob('seen.*'))))
+    return clone
+
+
+def test_changed_program_in_out(program, folder):
+    """Emptied, cut or with another byte, its own date kept: it is made anew, and not run."""
+    wanted = Path(program).read_bytes()
+    clone = Clone(folder, wanted)
+    clone.run('tor', '--version')
+    for _ in range(2):
+        place = unpacked(clone)
+        for bad in b'', wanted[:-1], wanted[:1000] + b'x' + wanted[1001:], script(folder)[0]:
+            status = place.stat()
+            place.write_bytes(bad)
+            os.utime(place, ns=(status.st_atime_ns, status.st_mtime_ns))
+            clone.expect(Told(0, b'tor 1.2.0\n', b''), 'tor', '--version')
+            expect_equal('the program', True, place.read_bytes() == wanted)
+        place.write_bytes(b'')
+        expect_equal('what is installed', 0, clone.run('dist/install', str(folder / 'prefix')).status)
+        expect_equal('its bytes', True, (folder / 'prefix/bin/tor').read_bytes() == wanted)
+        with_seen(clone)
+    expect_equal('the other was run', False, (folder / 'log').exists())
+
+
+def test_dist_is_compared(_, folder):
+    """A program in dist/ that built-from does not name is not run, not unpacked and not installed."""
+    (good, log), (bad, bad_log) = script(folder), script(folder, 'bad')
+    clone = Clone(folder, good)
+    clone.pack(bad)
+    build = b'tor: it has to be built from its sources, and rt is not on the PATH\n'
+    for name, *words in [('tor', '--version'), ('tor', '--where'), ('dist/install', str(folder / 'prefix'))]:
+        told = clone.run(name, *words)
+        expect_equal('what is told', (70, b'', True, build),
+                     (told.status, told.out, b'.gz is not the program that dist/built-from names\n' in told.err,
+                      told.err.partition(b'\n')[2]))
+    clone.out_of_reach()
+    expect_equal('without out/', 70, clone.run('tor', '--version').status)
+    (clone.root / 'out').unlink()
+    for text in clone.digest + '\n', clone.digest + '\nx86-64-v2 0\nx86-64-v3 0\n', '':
+        (clone.root / 'dist' / 'built-from').write_text(text)
+        clone.expect(Told(70, b'', b'tor: dist/built-from is damaged\n' + build), 'tor', '--version')
+    (clone.root / 'out').mkdir()
+    (clone.root / 'dist' / 'built-from').unlink()
+    clone.expect(Told(70, b'', b'tor: dist/built-from is missing\n' + build), 'tor', '--version')
+    expect_equal('what is left', ([], []), clone.left())
+    expect_equal('what was run', (False, False), (log.exists(), bad_log.exists()))
+    expect_equal('the folder to install in', False, (folder / 'prefix').exists())
+
+
+def test_install_compares(_, folder):
+    """The archive's installer puts no program that its built-from does not name."""
+    (good, log), (bad, _) = script(folder), script(folder, 'bad')
+    clone = Clone(folder / 'made', good)
+    archive = folder / 'archive'
+    (archive / 'programs').mkdir(parents=True)
+    for name in 'install', 'launch.sh', 'built-from', 'completions':
+        (shutil.copytree if name == 'completions' else shutil.copy2)(clone.root / 'dist' / name, archive / name)
+    shutil.copytree(clone.root / 'docs', archive / 'docs')
+
+    def install(content):
+        for processor in 'v2', 'v3':
+            (archive / 'programs' / f'tor-x86-64-{processor}').write_bytes(content)
+            (archive / 'programs' / f'tor-x86-64-{processor}').chmod(0o755)
+        done = subprocess.run([archive / 'install', folder / 'prefix'], capture_output=True, check=False)
+        return done.returncode, done.stderr.count(b'\n'), done.stderr.endswith(
+            b'is not the program that %s/built-from names\n' % os.fsencode(archive))
+
+    for content in bad, b'', good[:-1]:
+        expect_equal('another program', (70, 1, True), install(content))
+        expect_equal('the folder to install in', False, (folder / 'prefix').exists())
+    expect_equal('the program', (0, 0, False), install(good))
+    expect_equal('what was run', '--version\n', log.read_text())
+    (archive / 'built-from').unlink()
+    expect_equal('without built-from', 70, install(good)[0])
+
+
+def as_nobody():
+    """The words that run a command as another user."""
+    by = ('setpriv', '--reuid=65534', '--regid=65534', '--clear-groups')
+    if os.geteuid() or not shutil.which('setpriv') or subprocess.run([*by, 'true'], check=False).returncode:
+        raise Skipped('it needs root, and setpriv')
+    return by
+
+
+def test_out_that_others_can_write(_, folder):
+    """Nothing of it is run, and nothing written to it; the program runs from a folder for this run, which goes."""
+    (good, log), (bad, bad_log) = script(folder), script(folder, 'bad')
+    clone = Clone(folder, good)
+    clone.run('tor', '--version')
+    place = unpacked(clone)
+    with_seen(clone)
+    place.write_bytes(bad)
+    before = sorted(os.listdir(place.parent))
+    runs = len(log.read_text().splitlines())
+    for mode in 0o777, 0o775, 0o757, 0o1777:
+        place.parent.chmod(mode)
+        clone.expect(Told(0, b'', b''), 'tor', 'check', f'{mode}')
+        expect_equal('the runs', ['--version', f'check {mode}'], log.read_text().splitlines()[runs:])
+        expect_equal('what is left', (before, []), clone.left())
+        runs += 2
+    place.parent.chmod(0o755)
+    place.parent.rename(folder / 'elsewhere')
+    (clone.root / 'out').symlink_to(folder / 'elsewhere')
+    clone.expect(Told(0, b'', b''), 'tor', 'check', 'a link')
+    expect_equal('what was run of it', (False, 'check a link'), (bad_log.exists(), log.read_text().splitlines()[-1]))
+    (clone.root / 'out').unlink()
+    (folder / 'elsewhere').rename(clone.root / 'out')
+    clone.expect(Told(0, b'', b''), 'tor', 'check', 'alone')
+    expect_equal('the program', (good, False), (place.read_bytes(), bad_log.exists()))
+
+
+def test_out_of_another_user(_, folder):
+    """Of root's an other user runs what is right, and of another's root runs nothing."""
+    by = as_nobody()
+    (good, _), (bad, bad_log) = script(folder), script(folder, 'bad')
+    clone = Clone(folder, good.replace(b'echo "$*" >>', b'echo "$*" #'))
+    for place in folder, folder.parent, clone.temporary:
+        place.chmod(place.stat().st_mode | 0o755)
+    clone.temporary.chmod(0o1777)
+    clone.run('tor', '--version')
+    place = unpacked(clone)
+    where = clone.expect(Told(0, os.fsencode(place) + b'\n', b''), 'tor', '--where', by=by).out
+    for mode in 0o755, 0o777:
+        place.write_bytes(bad)
+        place.parent.chmod(mode)
+        clone.expect(Told(0, b'a\n', b''), 'tor', 'a', by=by)
+    expect_equal('the runs of the other', False, bad_log.exists())
+    place.parent.chmod(0o755)
+    shutil.rmtree(place.parent)
+    for mask in '077', '000', '002':
+        clone.expect(Told(0, where, b''), 'tor', '--where', by=('sh', '-c', f'umask {mask}; exec "$@"', 'sh'))
+        expect_equal('the rights', (0o700 if mask == '077' else 0o755, 0o755),
+                     (place.parent.stat().st_mode & 0o7777, place.stat().st_mode & 0o7777))
+        clone.expect(Told(0, b'b\n', b''), 'tor', 'b', by=by)
+        shutil.rmtree(place.parent)
+    place.parent.mkdir()
+    place.write_bytes(bad)
+    place.chmod(0o755)
+    os.chown(place.parent, 65534, 65534)
+    clone.expect(Told(0, b'c\n', b''), 'tor', 'c')
+    expect_equal('the program', bad, place.read_bytes())
+    clone.expect(Told(0, b'd\n', b''), 'tor', 'd', by=by)
+    expect_equal('what is left', ([place.name], []), clone.left())
+    expect_equal('the runs of the other', False, bad_log.exists())
+
+
+def test_sources_that_cannot_be_read(_, folder):
+    """One line."""
+    by = as_nobody()
+    clone, told = Clone(folder, script(folder)[0]), Told(70, b'', b'tor: the sources cannot be read\n')
+    for place in folder, folder.parent:
+        place.chmod(place.stat().st_mode | 0o755)
+    for place, mode in (clone.root / 'crates/tor/src/main.rt', 0o600), (clone.root / 'crates/tor/src', 0o700):
+        place.chmod(mode)
+        for word in '--version', '--sources':
+            clone.expect(told, 'tor', word, by=by)
+    (clone.root / 'out').mkdir()
+    for place in clone.root / 'HANDLES', clone.root / 'crates.txt':
+        place.rename(folder / 'kept')
+        for word in '--version', '--sources':
+            clone.expect(told, 'tor', word)
+        (folder / 'kept').rename(place)
+
+
+class Reads:
+    """How often the digest of the sources is read: each reading calls sha256sum, which is told in a file here."""
+
+    def __init__(self, folder):
+        self.log = folder / 'reads'
+        self.path = folder / 'commands'
+        self.path.mkdir()
+        real = shutil.which('sha256sum')
+        (self.path / 'sha256sum').write_text(f'#!/bin/sh\necho >>{self.log}\nexec {real} "$@"\n')
+        (self.path / 'sha256sum').chmod(0o755)
+
+    def expect(self, is_read, clone, wanted, note):
+        self.log.write_text('')
+        told = clone.run('tor', '--version', path=self.path)
+        expect_equal(note, (is_read, wanted), (self.log.read_text() != '', told))
+
+
+def rewritten(place, content):
+    """Writes a file in place, and gives it the date that it had."""
+    status = place.stat()
+    place.write_text(content)
+    os.utime(place, ns=(status.st_atime_ns, status.st_mtime_ns))
+
+
+def test_digest_is_read_if_something_changed(_, folder):
+    """And else not: a date that is kept, a file that is put, taken or moved, another clone."""
+    clone = Clone(folder, b'#!/bin/sh\n')
+    reads, right = Reads(folder), Told(0, b'', b'')
+    build = Told(70, b'', b'tor: it has to be built from its sources, and rt is not on the PATH\n')
+    main, specs = clone.root / 'crates/tor/src/main.rt', clone.root / 'crates/tor/specs'
+    reads.expect(True, clone, right, 'at first')
+    reads.expect(True, clone, right, 'just after')
+    with_seen(clone)
+    reads.expect(False, clone, right, 'nothing changed')
+    for name in ['.main.rt.swp', 'main.rt~', '#main.rt#', '4913', 'main.rt.orig']:
+        (main.parent / name).write_text('fn')
+    (main.parent / '.#main.rt').symlink_to('someone@somewhere')
+    reads.expect(False, clone, right, 'files of editors')
+    (folder / 'git').mkdir()
+    exported = {'GIT_DIR': str(folder / 'git'), 'GIT_WORK_TREE': '/'}
+    told = clone.run('tor', '--version', path=reads.path, environment=exported)
+    expect_equal('GIT_DIR', (right, ''), (told, reads.log.read_text()))
+    rewritten(main, 'fn main() { }')
+    reads.expect(True, clone, build, 'the same date and length')
+    rewritten(main, 'fn main() {}\n')
+    reads.expect(True, clone, right, 'as it was')
+    for content, wanted in ('fn f() {}\n', build), (None, right):
+        with_seen(clone)
+        reads.expect(False, clone, right, 'nothing changed')
+        specs.mkdir(exist_ok=True)
+        if content:
+            (specs / 'a.antt').write_text(content)
+            os.utime(specs / 'a.antt', (1e9, 1e9))
+            os.utime(specs, (1e9, 1e9))
+        reads.expect(bool(content), clone, wanted, 'a file more' if content else 'a folder more')
+        shutil.rmtree(specs)
+    with_seen(clone)
+    main.rename(folder / 'kept')
+    reads.expect(True, clone, build, 'a file less')
+    shutil.copy2(folder / 'kept', main)
+    reads.expect(True, clone, right, 'a copy in its place')
+    with_seen(clone)
+    rewritten(clone.root / 'HANDLES', 'Handles allowed: one .\n')
+    reads.expect(True, clone, build, 'HANDLES')
+    rewritten(clone.root / 'HANDLES', 'Handles allowed: none.\n')
+    with_seen(clone)
+    shutil.copytree(clone.root, folder / 'copy', symlinks=True)
+    clone.root = folder / 'copy'
+    reads.expect(True, clone, right, 'a copy with its dates')
+    with_seen(clone)
+    next((clone.root / 'out').glob('seen.*')).unlink()
+    (reads.path / 'date').write_text('#!/bin/sh\necho 1000000000\n')
+    (reads.path / 'date').chmod(0o755)
+    for note in 'a clock that was set back', 'and still is':
+        reads.expect(True, clone, right, note)
+    (reads.path / 'date').unlink()
+    with_seen(clone)
+    text = (clone.root / 'dist/built-from').read_text()
+    rewritten(clone.root / 'dist/built-from', text.replace(clone.digest, '0' * 64))
+    reads.expect(True, clone, build, 'built-from')
+    time.sleep(3.1)
+    reads.expect(True, clone, build, 'of other sources')
+    reads.expect(False, clone, build, 'of other sources, once more')
+
+
+def test_files_of_editors(_, folder):
+    """They do not make the sources others; another source does."""
+    clone = Clone(folder, b'#!/bin/sh\n')
+    for part in 'src', 'specs', 'proofs':
+        place = clone.root / 'crates/tor' / part / 'deep'
+        place.mkdir(parents=True)
+        for name in ['.x.rt.swp', '.x.antt.swo', 'x.rt~', '#x.antt#', '.#x', '4913', 'x.rt.rej', 'rt']:
+            (place / name).write_text('other')
+        clone.expect(Told(0, clone.digest.encode() + b'\n', b''), 'tor', '--sources')
+    for name in 'x.rt', 'x.antt':
+        (place / name).write_text('')
+        expect_equal(name, False, clone.run('tor', '--sources').out.decode() == clone.digest + '\n')
+        (place / name).unlink()
+    (clone.root / 'crates/tor/src/main.rt').write_text('fn main() {}')
+    expect_equal('a byte less', False, clone.run('tor', '--sources').out.decode() == clone.digest + '\n')
+
+
+def test_built_program(_, folder):
+    """What was built from the sources runs if it is as it was built, and others cannot write out/."""
+    (good, log), (bad, bad_log) = script(folder), script(folder, 'bad')
+    clone = Clone(folder, bad)
+    (clone.root / 'dist/built-from').write_text('0' * 64 + '\n')
+    (clone.root / 'out').mkdir()
+    build = Told(70, b'', b'tor: it has to be built from its sources, and rt is not on the PATH\n')
+    processor = unpacked_processor(clone)
+    place = clone.root / 'out' / f'built.{processor}.{clone.digest}'
+    place.write_bytes(good)
+    place.chmod(0o755)
+    clone.expect(build, 'tor', '--from-source', 'check')
+    (clone.root / 'out' / f'built.sum.{processor}.{clone.digest}').write_text(hashlib.sha256(good).hexdigest() + '\n')
+    clone.expect(Told(0, b'', b''), 'tor', '--from-source', 'check')
+    expect_equal('the runs', 'check\n', log.read_text())
+    clone.expect(Told(0, os.fsencode(place) + b'\n', b''), 'tor', '--from-source', '--where')
+    (clone.root / 'out').chmod(0o777)
+    clone.expect(build, 'tor', '--from-source', 'check')
+    (folder / 'commands').mkdir()
+    (folder / 'commands/rt').write_text('#!/bin/sh\n')
+    (folder / 'commands/rt').chmod(0o755)
+    told = f'{clone.root}/out is not a folder that only this user can write\n'
+    told = f'tor: it has to be built from its sources, and {told}'.encode()
+    clone.expect(Told(70, b'', told), 'tor', '--from-source', 'check', path=folder / 'commands')
+    (clone.root / 'out').chmod(0o755)
+    place.write_bytes(bad)
+    clone.expect(build, 'tor', '--from-source', 'check')
+    expect_equal('the other was run', False, bad_log.exists())
+
+
+def unpacked_processor(clone):
+    """The processor that the launcher finds here."""
+    told = subprocess.check_output(['sh', '-c', 'root=; . "$1"; processor', 'sh', clone.root / 'dist/launch.sh'])
+    return told.decode().strip()
+
+
+def shells(folder):
+    """Each shell that is here, as the words that run a script by it; bash as sh too."""
+    (folder / 'shells').mkdir()
+    found = [(shutil.which(name),) for name in ('dash', 'bash') if shutil.which(name)]
+    if shutil.which('bash'):
+        (folder / 'shells/sh').symlink_to(shutil.which('bash'))
+        found.append((folder / 'shells/sh',))
+    if shutil.which('busybox'):
+        found.append((shutil.which('busybox'), 'sh'))
+    return found
+
+
+def test_environment(program, folder):
+    """What a shell or a command takes from the environment changes nothing."""
+    clone = Clone(folder, Path(program).read_bytes())
+    startup = folder / 'startup'
+    startup.write_text('echo startup; exit 9\n')
+    names = ['cd', 'find', 'printf', 'read', 'readlink', 'rm', 'sha256sum', 'sed', 'awk', 'test', 'mktemp', 'echo']
+    functions = {f'BASH_FUNC_{name}%%': '() { echo other; false; }' for name in [*names, 'umask', 'cmp', 'say', 'tr']}
+    options = {'SHELLOPTS': 'noclobber:noglob:nounset:errexit:posix:allexport:monitor',
+               'BASHOPTS': 'failglob:nocasematch:xpg_echo', 'CDPATH': f'/:{folder}', 'IFS': '/.a', 'GREP_OPTIONS': '-v',
+               'GZIP': '-v', 'LC_ALL': 'C.UTF-8', 'LANG': 'C.UTF-8', 'ENV': str(startup), 'HOME': None,
+               'PWD': '/absent', 'OLDPWD': '-'}
+    found = [(), *shells(folder)]
+    cases = [options, {**functions, 'POSIXLY_CORRECT': '1'}, {'BASH_VERSION': '5'}]
+    runs = [(by, case) for by in found for case in cases]
+    # A bash that is called so, and not sh, reads the file before the script.
+    runs += [(by, {'BASH_ENV': str(startup)}) for by in found if not by or not str(by[0]).endswith('bash')]
+    lines = ''.join(f'{folder}/prefix/{place}\n' for place in PLACES).encode()
+    for by, case in runs:
+        shutil.rmtree(clone.root / 'out', ignore_errors=True)
+        for _ in range(2):
+            clone.expect(Told(0, b'tor 1.2.0\n', b''), 'tor', '--version', by=by, environment=case)
+        clone.expect(Told(0, clone.digest.encode() + b'\n', b''), 'tor', '--sources', by=by, environment=case)
+    for by, case in runs[::2]:
+        shutil.rmtree(folder / 'prefix', ignore_errors=True)
+        clone.expect(Told(0, lines, b''), 'dist/install', str(folder / 'prefix'), by=by, environment=case)
+        wanted = [hashlib.sha256(Path(file).read_bytes()).hexdigest() for file in (program, ROOT / 'docs/tor.1')]
+        expect_equal('the files', wanted, list(digests(folder / 'prefix').values())[:2])
+    told = Told(2, b'', b'install: HOME is not set, and no folder is given\n')
+    clone.expect(told, 'dist/install', environment={'HOME': None})
+
+
+def test_names_of_places(program, folder):
+    """A clone, and a folder to install in, of any name."""
+    wanted = Path(program).read_bytes()
+    names = ['a b', '\'"`$x', '*?[a-z]', '-x', 'end\n', '\n', 'back\\nslash\\c', '#~%s%n', '\xe4']
+    for number, name in enumerate(names):
+        clone = Clone(folder / str(number), wanted)
+        clone.root = clone.root.rename(folder / str(number) / name)
+        where = os.fsencode(clone.root / 'out')
+        for by in ((), ('sh',), ('bash',), ('busybox', 'sh'))[:4 if shutil.which('busybox') else 3]:
+            clone.expect(Told(0, b'tor 1.2.0\n', b''), 'tor', '--version', by=by)
+        told = clone.run('tor', '--where')
+        expect_equal(f'where in {name!r}', (0, where, b''), (told.status, told.out.rpartition(b'/')[0], told.err))
+        for place, words in (clone.root, ['./tor']), (clone.root.parent, [os.path.join(name, 'tor')]):
+            done = subprocess.run([*words, '--version'], cwd=place, executable=words[0], capture_output=True,
+                                  check=False, env={**os.environ, 'PATH': PATH})
+            expect_equal(f'{words} in {place}', (0, b'tor 1.2.0\n', b''), (done.returncode, done.stdout, done.stderr))
+        prefix = clone.root / 'prefix'
+        lines = b''.join(os.fsencode(prefix / place) + b'\n' for place in PLACES)
+        clone.expect(Told(0, lines, b''), 'dist/install', str(prefix))
+        expect_equal('the program', True, (prefix / 'bin/tor').read_bytes() == wanted)
+        clone.root.rename(clone.root.parent / 'clone')
+        clone.root = clone.root.parent / 'clone'
+
+
+def commands(folder, of=None):
+    """A folder with links to the commands of the PATH, or of busybox."""
+    folder.mkdir()
+    if of:
+        for name in subprocess.check_output([of, '--list'], text=True).split():
+            (folder / name).symlink_to(of)
+    else:
+        for place in reversed(PATH.split(':')):
+            for name in os.listdir(place) if os.path.isdir(place) else []:
+                (folder / name).unlink(missing_ok=True)
+                (folder / name).symlink_to(os.path.join(place, name))
+    return str(folder)
+
+
+def test_command_that_is_missing(program, folder):
+    """One line names it; what was unpacked needs few."""
+    clone = Clone(folder, Path(program).read_bytes())
+    path = commands(folder / 'all')
+    names = 'awk cut date find gzip head mktemp od sed sha256sum sort tr uname'
+    for name in names.split():
+        place = folder / 'all' / name
+        place.rename(folder / 'kept')
+        told = Told(70, b'', b'tor: %s is not on the PATH\n' % name.encode())
+        clone.expect(told, 'tor', '--version', environment={'PATH': path})
+        clone.expect(told, 'dist/install', str(folder / 'prefix'), environment={'PATH': path})
+        (folder / 'kept').rename(place)
+    expect_equal('what is left', ([], []), clone.left())
+    clone.expect(Told(0, b'tor 1.2.0\n', b''), 'tor', '--version', environment={'PATH': path})
+    (folder / 'all/gzip').unlink()
+    clone.expect(Told(0, b'tor 1.2.0\n', b''), 'tor', '--version', environment={'PATH': path})
+
+
+def test_busybox_alone(program, folder):
+    """All commands are those of busybox, which has no `find -printf`."""
+    if not shutil.which('busybox'):
+        raise Skipped('it needs busybox')
+    clone = Clone(folder, Path(program).read_bytes())
+    path = commands(folder / 'all', of=shutil.which('busybox'))
+    by = (shutil.which('busybox'), 'sh')
+    (clone.root / 'crates/tor/specs').mkdir()
+    for wait in 0, 3.1, 0:
+        time.sleep(wait)
+        clone.expect(Told(0, b'tor 1.2.0\n', b''), 'tor', '--version', by=by, environment={'PATH': path})
+    seen = next((clone.root / 'out').glob('seen.*'))
+    seen.write_text(seen.read_text().replace(clone.digest, '0' * 64, 1))
+    build = Told(70, b'', b'tor: it has to be built from its sources, and bash is not on the PATH\n')
+    clone.expect(build, 'tor', '--version', by=by, environment={'PATH': path})
+    (clone.root / 'crates/tor/src/a.rt').write_text('')
+    clone.expect(build, 'tor', '--version', by=by, environment={'PATH': path})
+    (clone.root / 'crates/tor/src/a.rt').unlink()
+    seen.unlink()
+    clone.expect(Told(0, b'tor 1.2.0\n', b''), 'tor', '--version', by=by, environment={'PATH': path})
+    (clone.root / 'HANDLES').unlink()
+    told = Told(70, b'', b'tor: the sources cannot be read\n')
+    clone.expect(told, 'tor', '--version', by=by, environment={'PATH': path})
+
+
+def test_without_proc(program, folder):
+    """The program for the older processor runs, from out/ and from a folder for this run, which goes."""
+    by = ('unshare', '--mount', '--propagation', 'private', 'sh', '-c',
+          'mount -t tmpfs tmpfs /proc && exec "$@"', 'sh')
+    if not shutil.which('unshare') or subprocess.run([*by, 'true'], capture_output=True, check=False).returncode:
+        raise Skipped('it needs root, and unshare')
+    clone = Clone(folder, Path(program).read_bytes())
+    told = clone.run('tor', '--where', by=by)
+    expect_equal('the program', (0, b'tor.x86-64-v2.', b''), (told.status, told.out.split(b'/')[-1][:14], told.err))
+    clone.expect(Told(0, b'tor 1.2.0\n', b''), 'tor', '--version', by=by)
+    clone.out_of_reach()
+    clone.expect(Told(1, b'', b'tor: N3 DotDot\n'), 'tor', 'make', '--name', '..', by=by, data=b'ab')
+    expect_equal('temporary files', [], os.listdir(clone.temporary))
+
+
+def test_temporary_folder(program, folder):
+    """TMPDIR that is not set, relative, or not there, if out/ cannot be made."""
+    clone = Clone(folder, Path(program).read_bytes())
+    clone.out_of_reach()
+    for number, name in enumerate(['relative', '.', '-x', 'a b', 'end\n']):
+        where = folder / f'in {number}'
+        (where / name).mkdir(parents=True)
+        clone.expect(Told(0, b'tor 1.2.0\n', b''), 'tor', '--version', where=where, environment={'TMPDIR': name})
+        expect_equal('what is left', [], [place for place in where.rglob('*') if not place.is_dir()])
+        told = clone.run('tor', '--where', where=where, environment={'TMPDIR': name})
+        expect_equal('where', True, os.path.isabs(told.out) and os.access(told.out[:-1], os.X_OK))
+        shutil.rmtree(where)
+        (where / name).mkdir(parents=True)
+        expect_equal('installing', 0, clone.run('dist/install', str(folder / 'prefix'), where=where,
+                                                environment={'TMPDIR': name}).status)
+        expect_equal('what is left', [], [place for place in where.rglob('*') if not place.is_dir()])
+    for value in None, '':
+        clone.expect(Told(0, b'tor 1.2.0\n', b''), 'tor', '--version', environment={'TMPDIR': value})
+    told = f'tor: neither {clone.root}/out nor {folder}/absent can be written\n'.encode()
+    clone.expect(Told(70, b'', told), 'tor', '--version', environment={'TMPDIR': f'{folder}/absent'})
+    (clone.root / 'out').unlink()
+    (clone.root / 'out').mkdir()
+    (clone.root / 'out').chmod(0o777)
+    told = f'{clone.root}/out is not a folder that only this user can write, and {folder}/absent cannot be written\n'
+    told = f'tor: {told}'.encode()
+    clone.expect(Told(70, b'', told), 'tor', '--version', environment={'TMPDIR': f'{folder}/absent'})
 
 
 def digests(prefix):
@@ -202,7 +701,8 @@ def test_install_as_another_name(program, folder):
     clone.expect(Told(0, b''.join(b'%s/%s\n' % (os.fsencode(prefix), place.encode()) for place in other), b''),
                  'dist/install', '--as', 'plover', str(prefix))
     page = (prefix / 'share/man/man1/plover.1').read_text()
-    for line in ['.TH PLOVER 1 ', 'plover \\- make', '\\fBplover make', '.B plover\n', 'with \\fBtor:\\fR', "'tor make"]:
+    for line in ['.TH PLOVER 1 ', 'plover \\- make', '\\fBplover make', '.B plover\n', 'with \\fBtor:\\fR',
+                 "'tor make"]:
         expect_equal(f'{line} in the man page', True, line in page)
     expect_equal('complete', 'complete -F _tor plover',
                  (prefix / 'share/bash-completion/completions/plover').read_text().splitlines()[-1])
@@ -210,7 +710,8 @@ def test_install_as_another_name(program, folder):
     clone.expect(Told(0, told, b''), 'dist/install', '--remove', str(prefix))
     expect_equal('files left', sorted([*other, 'share/plovercasket/installed']),
                  sorted(str(path.relative_to(prefix)) for path in prefix.rglob('*') if not path.is_dir()))
-    clone.expect(Told(0, told.replace(b'/tor', b'/plover').replace(b'_tor', b'_plover').replace(b'/plover-tests', b'/tor-tests'), b''), 'dist/install', '--remove', '--as=plover', str(prefix))
+    told = b''.join(b'removed %s/%s\n' % (os.fsencode(prefix), place.encode()) for place in other)
+    clone.expect(Told(0, told, b''), 'dist/install', '--remove', '--as=plover', str(prefix))
     expect_equal('files left', [], [path for path in prefix.rglob('*') if not path.is_dir()])
     for name in ['', 'a b', 'A', '-x', '../x']:
         told = b'install: a name has small letters, digits and hyphens, and begins with a letter\n'
@@ -237,14 +738,33 @@ def test_packages(program, folder):
     for place in 'one', 'two':
         subprocess.run([ROOT / 'dist/package', folder / place], check=True, stdout=subprocess.DEVNULL)
     made = sorted(path.name for path in (folder / 'one').iterdir())
-    expect_equal('the packages', ['plovercasket-1.1.0-x86_64-linux.tar.gz', 'plovercasket_1.1.0_amd64.deb'], made)
+    expect_equal('the packages', ['libplovercasket-dev_1.2.0_amd64.deb', 'libplovercasket1_1.2.0_amd64.deb',
+                                  'plovercasket-1.2.0-x86_64-linux.tar.gz', 'plovercasket_1.2.0_amd64.deb'], made)
+    dev, library, archive, package = made
     for name in made:
         expect_equal(name, True, (folder / 'one' / name).read_bytes() == (folder / 'two' / name).read_bytes())
-    subprocess.run(['tar', '-xzf', folder / 'one' / made[0], '-C', folder], check=True)
-    unpacked = folder / made[0].removesuffix('.tar.gz')
+    subprocess.run(['tar', '-xzf', folder / 'one' / archive, '-C', folder], check=True)
+    unpacked = folder / archive.removesuffix('.tar.gz')
     subprocess.run([unpacked / 'install', folder / 'prefix'], check=True, stdout=subprocess.DEVNULL)
     packed = {path.read_bytes() for path in (unpacked / 'programs').iterdir()}
     expect_equal('the program is in the archive', True, (folder / 'prefix/bin/tor').read_bytes() in packed)
-    expect_equal('its version', b'tor 1.1.0\n', subprocess.check_output([folder / 'prefix/bin/tor', '--version']))
-    listed = subprocess.check_output(['dpkg-deb', '-c', folder / 'one' / made[1]]).split()
+    expect_equal('its version', b'tor 1.2.0\n', subprocess.check_output([folder / 'prefix/bin/tor', '--version']))
+    listed = subprocess.check_output(['dpkg-deb', '-c', folder / 'one' / package]).split()
     expect_equal('the command', True, b'./usr/bin/plovercasket' in listed and wanted != b'')
+    expect_library(folder, [folder / 'one' / library, folder / 'one' / dev])
+
+
+def expect_library(folder, packages):
+    """The packages of the library have what a program in C or Python asks for."""
+    for package in packages:
+        subprocess.run(['dpkg-deb', '-x', package, folder / 'system'], check=True)
+    usr, shipped = folder / 'system' / 'usr', ROOT / 'dist' / 'library'
+    libraries = usr / 'lib' / 'x86_64-linux-gnu'
+    for name, place in [('plovercasket.h', usr / 'include' / 'plovercasket.h'),
+                        ('libplovercasket.a', libraries / 'libplovercasket.a'),
+                        ('libplovercasket.so', libraries / 'libplovercasket.so.1'),
+                        ('plovercasket.py', usr / 'lib' / 'python3' / 'dist-packages' / 'plovercasket.py')]:
+        expect_equal(name, True, place.read_bytes() == (shipped / name).read_bytes())
+    expect_equal('the name for linking', 'libplovercasket.so.1', os.readlink(libraries / 'libplovercasket.so'))
+    told = (libraries / 'pkgconfig' / 'plovercasket.pc').read_text()
+    expect_equal('the version', True, 'Version: 1.2.0\n' in told and '/x86_64-linux-gnu\n' in told)

@@ -334,7 +334,7 @@ def expect_found(rng, program, file, content, torrent, contents):
     expect(program, ['recheck', *options, *workers, str(file), str(content)], done(out, status))
     options, files = rng.choice([([], None), (['--files'], found), (['--bad'], bad)])
     expect_record(program, ['recheck', '--json', *options, str(file), str(content)],
-                  reference.recheck_record(marks, files), status)
+                  reference.recheck_record(torrent, marks, files), status)
 
 
 def expect_record(program, words, wanted, status=0):

@@ -34,7 +34,7 @@ def test_json_over_1_mib(program, folder):
     expect_long(record, MIB)
     expect_record(program, ['check', '--json', str(torrent)], record)
     found = reference.files_found(view, [None] * len(entries))
-    record = reference.recheck_record([False] * pieces, found)
+    record = reference.recheck_record(view, [False] * pieces, found)
     expect_long(record, 2 * MIB)
     for option in ['--files', '--bad']:
         expect_record(program, ['recheck', '--json', option, str(torrent), str(folder / 'absent')], record, 1)
@@ -50,6 +50,7 @@ def test_json_past_100000_pieces(program, folder):
             b'pieces': ZERO_PIECE + ZERO_PIECE * padding + b''.join(blocks)}
     torrent, place = folder / 'torrent', folder / 'files'
     torrent.write_bytes(encode({b'info': info}))
+    view = judge(torrent.read_bytes())
     place.mkdir()
     (place / 'z').write_bytes(bytes(BLOCK))
     for turned in [None, 3]:
@@ -62,7 +63,7 @@ def test_json_past_100000_pieces(program, folder):
         found = [reference.FileFound('whole', 1, 1, BLOCK, BLOCK, (b'z',)),
                  reference.FileFound(state, good, 6, len(content), len(content), (b'a',))]
         expect_record(program, ['recheck', '--json', '--files', str(torrent), str(place)],
-                      reference.recheck_record(marks, found), 0 if turned is None else 1)
+                      reference.recheck_record(view, marks, found), 0 if turned is None else 1)
 
 
 def test_json_of_lengths_past_32_bits(program, folder):
@@ -76,7 +77,7 @@ def test_json_of_lengths_past_32_bits(program, folder):
         expect_record(program, ['check', '--json', str(torrent)], reference.check_record(view))
         found = [reference.FileFound('missing', 0, pieces, None, length, (b'f',))]
         expect_record(program, ['recheck', '--json', '--files', str(torrent), str(folder / 'absent')],
-                      reference.recheck_record([False] * pieces, found), 1)
+                      reference.recheck_record(view, [False] * pieces, found), 1)
 
 
 def test_json_of_files_past_32_bits(program, folder):
@@ -101,9 +102,10 @@ def test_json_of_files_past_32_bits(program, folder):
         found.append(reference.FileFound(state, good, count, there, told, (name,)))
     info = {b'file tree': tree, b'meta version': 2, b'name': b'f', b'piece length': GIB}
     torrent.write_bytes(encode({b'info': info, b'piece layers': layers}))
+    view = judge(torrent.read_bytes())
     marks = [file.state == 'whole' for file in found for _ in range(file.pieces)]
     words = [str(torrent), str(place)]
-    expect_record(program, ['recheck', '--json', '--files', *words], reference.recheck_record(marks, found), 1)
+    expect_record(program, ['recheck', '--json', '--files', *words], reference.recheck_record(view, marks, found), 1)
     expect(program, ['recheck', '--files', *words],
            done(reference.recheck_lines(marks) + reference.found_lines(found), 1))
 

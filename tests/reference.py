@@ -7,6 +7,7 @@ import hashlib
 import re
 from collections import namedtuple
 from functools import cached_property
+from itertools import groupby
 
 BLOCK = 16384
 MAX_PIECE_LENGTH = 1 << 30
@@ -676,6 +677,11 @@ def check_lines(torrent):
     return b''.join(line + b'\n' for line in lines)
 
 
+def root_lines(torrent):
+    return b''.join(b'root %s %d\n' % (file.root.hex().encode(), number)
+                    for number, file in enumerate(torrent.files) if file.root)
+
+
 def magnet(torrent):
     v1, v2 = info_hashes(torrent)
     topics = ([b'xt=urn:btih:' + v1] if v1 else []) + ([b'xt=urn:btmh:1220' + v2] if v2 else [])
@@ -751,7 +757,8 @@ def recheck_lines(marks):
 # Which pieces have bytes of a file, and what is told of it.
 
 def spans_of(torrent):
-    """The numbers of the pieces that have bytes of each file, in the torrent's order."""
+    """The numbers of the pieces that have bytes of each file, in the torrent's order; of an empty one an empty range,
+    which begins with the piece that a byte there would be in."""
     spans, p, start = [], torrent.piece_length, 0
     if torrent.has_tree:
         for file in torrent.files:
@@ -761,9 +768,35 @@ def spans_of(torrent):
         return spans
     for _, length, is_padding in torrent.entries:
         if not is_padding:
-            spans.append(range(start // p, (start + length - 1) // p + 1) if length else range(0))
+            spans.append(range(start // p, -(-(start + length) // p) if length else start // p))
         start += length
     return spans
+
+
+def starts_of(torrent):
+    """The offset of each file's first byte in the bytes that are cut into pieces, in the torrent's order."""
+    if torrent.has_tree:
+        return [span.start * torrent.piece_length for span in spans_of(torrent)]
+    starts, start = [], 0
+    for _, length, is_padding in torrent.entries:
+        if not is_padding:
+            starts.append(start)
+        start += length
+    return starts
+
+
+def bad_ranges(torrent, marks):
+    """Of each file, in the torrent's order, its bytes in pieces that do not hold: the first, and the end."""
+    length, told = torrent.piece_length, []
+    for file, pieces, start in side_by_side(torrent.files, spans_of(torrent), starts_of(torrent)):
+        ranges = []
+        for is_right, together in groupby(pieces, marks.__getitem__):
+            numbers = list(together)
+            if not is_right:
+                first, end = numbers[0] * length - start, (numbers[-1] + 1) * length - start
+                ranges.append([max(first, 0), min(end, file.length)])
+        told.append(ranges)
+    return told
 
 
 FileFound = namedtuple('FileFound', 'state good pieces there told path')
@@ -806,20 +839,68 @@ def path_record(path):
     return [name.decode() for name in path]
 
 
+def text_record(value):
+    """Bytes as text, if they are text; else as a line of ASCII has them."""
+    try:
+        return value.decode()
+    except UnicodeDecodeError:
+        return ''.join((b'\\x%02x' % byte if byte > 127 else SHOWN[byte]).decode() for byte in value)
+
+
+def texts_record(value):
+    """A list of byte strings; None for anything else."""
+    if isinstance(value, list) and all(isinstance(item, bytes) for item in value):
+        return [text_record(item) for item in value]
+    return None
+
+
+def tiers_record(value):
+    """A list of lists of byte strings (BEP 12); None for anything else."""
+    tiers = [texts_record(tier) for tier in value] if isinstance(value, list) else [None]
+    return None if None in tiers else tiers
+
+
+def letters_of(torrent):
+    """For each file, whether it has an `x`, and whether it has an `h`; by the tree if it has an `attr` there."""
+    info = torrent.info
+    listed = []
+    if torrent.has_list:
+        entries = [info] if b'length' in info else [e for e in info[b'files'] if b'p' not in e.get(b'attr', b'')]
+        listed = [entry.get(b'attr', b'') for entry in entries]
+    told = listed
+    if torrent.has_tree:
+        told = [properties.get(b'attr', listed[i] if listed else b'')
+                for i, (_, properties) in enumerate(torrent.tree_files)]
+    return [(b'x' in attr, b'h' in attr) for attr in told]
+
+
+def file_record(file, span, letters):
+    return {'length': file.length, 'path': path_record(file.path), 'root': file.root and file.root.hex(),
+            'exec': letters[0], 'hidden': letters[1], 'first_piece': span.start, 'pieces': len(span)}
+
+
 def check_record(torrent):
     v1, v2 = info_hashes(torrent)
-    files = [{'length': file.length, 'path': path_record(file.path)} for file in torrent.files]
+    files = [file_record(*row) for row in side_by_side(torrent.files, spans_of(torrent), letters_of(torrent))]
+    announce, urls = torrent.root.get(b'announce'), torrent.root.get(b'url-list')
     return {'kind': torrent.kind, 'name': torrent.info[b'name'].decode(), 'piece_length': torrent.piece_length,
             'pieces': count_pieces(torrent), 'files': files, 'btih': v1 and v1.decode(),
-            'btmh': v2 and '1220' + v2.decode()}
+            'btmh': v2 and '1220' + v2.decode(), 'private': torrent.info.get(b'private') == 1,
+            'total': sum(file.length for file in torrent.files),
+            'announce': text_record(announce) if isinstance(announce, bytes) else None,
+            'announce_list': tiers_record(torrent.root.get(b'announce-list')),
+            'url_list': texts_record([urls] if isinstance(urls, bytes) else urls)}
 
 
-def recheck_record(marks, found):
+def recheck_record(torrent, marks, found):
     """Without files where None is found."""
+    v1, v2 = info_hashes(torrent)
+    bad = {file.path: ranges for file, ranges in side_by_side(torrent.files, bad_ranges(torrent, marks))}
     files = found and [{'state': file.state, 'good': file.good, 'pieces': file.pieces, 'there': file.there,
-                        'told': file.told, 'path': path_record(file.path)} for file in found]
+                        'told': file.told, 'path': path_record(file.path), 'bad': bad[file.path]} for file in found]
     return {'good': sum(marks), 'pieces': len(marks), 'bits': recheck_lines(marks).split()[-1].decode()
-            if marks else '', 'files': files}
+            if marks else '', 'files': files, 'btih': v1 and v1.decode(), 'btmh': v2 and '1220' + v2.decode(),
+            'kind': torrent.kind, 'name': torrent.info[b'name'].decode(), 'piece_length': torrent.piece_length}
 
 
 # Proofs of pieces.

@@ -20,6 +20,8 @@ class Skipped(Exception):
 
 # The environment variable that names the program as it loads the C library of the machine.
 DYNAMIC = 'TOR_DYNAMIC'
+# That which names the folder of the library for programs in other languages.
+LIBRARY = 'TOR_LIBRARY'
 
 
 def preloadable(program):

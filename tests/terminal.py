@@ -19,6 +19,7 @@ AMOUNT = rb'(?:(\d+) B|(\d+\.\d) (KiB|MiB|GiB|TiB))'
 TIME = rb'(?:(\d+) h (\d+) min|(\d+) min (\d+) s|(\d+) s)'
 LINE = re.compile(rb'\r' + AMOUNT + rb' of ' + AMOUNT + rb', ' + AMOUNT + rb'/s, ' + TIME + rb' left\x1b\[K')
 ERASED = b'\r\x1b[K'
+CHANGED = b'it changed while it was read, or another stands in its place: try again when none writes to it'
 # Seconds from one print to the next.
 INTERVAL = 0.25
 
@@ -240,7 +241,8 @@ def test_of_a_stream_that_cannot_be_read_on(program, folder):
     words = ['make', '--name', 'f', '--how', 'streams', '--workers', '2', str(place)]
     parts, told = watch(program, words, meanwhile=(place / 'b').unlink)
     expect_equal('status and output', (3, b''), (told.status, told.out))
-    check_lines(parts, told.err, size + 5, ERASED + b'tor: E1 Read file 1 at 0\n')
+    check_lines(parts, told.err, size + 5, ERASED + b'tor: E1 Read file 1 at 0\n'
+                + b'tor: file 1: invalid data\n')
 
 
 def test_of_a_stream_that_shrinks_or_grows(program, folder):
@@ -290,7 +292,8 @@ def test_erased_before_another_line(program, folder):
     path = sparse(folder, size)
     parts, told = watch(program, ['make', '--name', 'a', path], meanwhile=lambda: os.truncate(path, 5))
     expect_equal('status and output', (3, b''), (told.status, told.out))
-    check_lines(parts, told.err, size, ERASED + b'tor: E2 Changed file 0\n')
+    name = os.path.basename(path).encode()
+    check_lines(parts, told.err, size, ERASED + b'tor: E2 Changed file 0\ntor: file 0 is %s: %s\n' % (name, CHANGED))
 
 
 def test_recheck_of_a_cut_file(program, folder):
@@ -302,7 +305,7 @@ def test_recheck_of_a_cut_file(program, folder):
                         + bytes(20 * pieces) + b'ee')
     parts, told = watch(program, ['recheck', str(torrent), path], meanwhile=lambda: os.truncate(path, 5))
     expect_equal('status and output', (3, b''), (told.status, told.out))
-    check_lines(parts, told.err, size, ERASED + b'tor: C2 Changed file 0\n')
+    check_lines(parts, told.err, size, ERASED + b'tor: C2 Changed file 0\ntor: file 0 is a: %s\n' % CHANGED)
 
 
 def test_recheck_of_a_longer_file(program, folder):
@@ -317,17 +320,20 @@ def test_recheck_of_a_longer_file(program, folder):
 
 
 def test_nothing_is_shown_of_short_work(program, folder):
-    """A file that is read at once, standard input, and the other commands: a fault's line comes alone."""
+    """A file that is read at once, standard input, and the other commands: a fault has its two lines, and no other."""
     (folder / 'abc').write_bytes(b'abc')
     torrent = folder / 'torrent'
     torrent.write_bytes(ABC)
     for words, status, line in [(['make', '--name', 'a', str(folder / 'abc')], 0, b''),
-                                (['make', '--name', '..', str(folder / 'abc')], 1, b'tor: N3 DotDot\n'),
+                                (['make', '--name', '..', str(folder / 'abc')], 1,
+                                 b'tor: N3 DotDot\ntor: .. is refused as N3 DotDot: it leads to the folder above\n'),
                                 (['check', str(torrent)], 0, b''), (['magnet', str(torrent)], 0, b''),
                                 (['prove', str(torrent), '0', '0'], 0, b''), (['--help'], 0, b''),
                                 (['recheck', str(torrent), str(folder / 'abc')], 0, b''),
-                                (['recheck', str(torrent), str(folder)], 1, b''),
-                                (['check', 'absent'], 3, b'tor: read fault\n')]:
+                                (['recheck', str(torrent), str(folder)], 1,
+                                 b'tor: %s: it has no file of the torrent\n' % os.fsencode(folder)),
+                                (['check', 'absent'], 3,
+                                 b'tor: read fault\ntor: absent: No such file or directory (os error 2)\n')]:
         _, told = watch(program, words)
         expect_equal(f'{words}: status and standard error', (status, line), (told.status, told.err))
     big = sparse(folder, 1 << 30)
