@@ -4,7 +4,7 @@ kit=$(dirname "$(rt doc)")
 
 # The libraries that the line of a crate in TREE/crates.txt names.
 libraries_of() {
-    sed 's/#.*//' "$1/crates.txt" | awk -F: -v name="$2" '$1 == name { print $2 }'
+    sed 's/#.*//' "$1/crates.txt" | awk -F: -v name="$2" '{ split($1, words, " ") } words[1] == name { print $2 }'
 }
 
 # The libraries of the repository below a crate, each once, the lowest first.
@@ -16,15 +16,25 @@ below() {
             for (i = 1; i <= count; i++) if (words[i] in libraries) tell(words[i])
             if (name != crate) print name
         }
-        NF == 2 { libraries[$1] = $2 }
+        NF == 2 { split($1, words, " "); libraries[words[1]] = $2 }
         END { tell(crate) }'
+}
+
+# Whether a crate is a static library, for programs in other languages.
+is_static() {
+    sed 's/#.*//' "$1/crates.txt" | awk -F: -v name="$2" '
+        { split($1, words, " ") }
+        words[1] == name && words[2] == "staticlib" { found = 1 }
+        END { exit !found }'
 }
 
 # The words by which a crate is read over the libraries that were proved.
 read_words() {
     local tree=$1 crate=$2 library root=src/lib.rt
     if [ -f "$tree/crates/$crate/src/main.rt" ]; then root=src/main.rt; fi
-    words=(--crate-name "$crate" "$root" --extern "std=$kit/rlibs/std.rlib" -L "dependency=$kit/rlibs")
+    words=()
+    if is_static "$tree" "$crate"; then words=(--crate-type staticlib); fi
+    words+=(--crate-name "$crate" "$root" --extern "std=$kit/rlibs/std.rlib" -L "dependency=$kit/rlibs")
     for library in $(libraries_of "$tree" "$crate"); do
         if [ -d "$tree/crates/$library" ]; then
             words+=(--extern "$library=$(rlib_of "$tree" "$library")")
@@ -118,4 +128,37 @@ link_static() {
         "$lib/crtendS.o" "$lib/crtn.o" "${instead[@]}" || status=$?
     rm -f "$2.library.a"
     return $status
+}
+
+# The names that programs of other languages call.
+exports() {
+    sed -n 's/^ *\(plover_[a-z_]*\);$/\1/p' "$1/dist/library/exports"
+}
+
+# One of the tools of LLVM that are in the toolchain's clang.
+call_llvm() {
+    local tool=$1
+    shift
+    (exec -a "$tool" "$kit/toolchain/bin/clang" "$@")
+}
+
+# Proves the file of the static library over the libraries, compiles it for a processor, and leaves in the folder an
+# archive and a shared library that have its exports and no other name. Both ask of the C library for memory alone.
+build_library() {
+    local tree=$1 processor=$2 made=$3/made-$2 words name kept=()
+    mkdir -p "$made"
+    read_words "$tree" tor_c
+    call_rattle "$tree" tor_c "$made/log" "${words[@]}" --cpu="$processor" --jobs 1 --toolchain "$kit/toolchain" \
+        --backend llvm -o "$made/libtor_c.a"
+    (cd "$made" && "$kit/toolchain/bin/llvm-ar" x libtor_c.a && "$kit/toolchain/bin/llvm-ar" x "$kit/c/liblibc_c.a")
+    "$kit/toolchain/bin/ld.lld" -r --threads=1 -o "$made/joined.o" "$made/tor_c.o" "$made/heap.pic.o"
+    for name in $(exports "$tree"); do kept+=("--keep-global-symbol=$name"); done
+    call_llvm llvm-objcopy "${kept[@]}" --strip-unneeded "$made/joined.o" "$made/plovercasket.o"
+    rm -f "$3/libplovercasket.a"
+    (cd "$made" && "$kit/toolchain/bin/llvm-ar" rcsD "$3/libplovercasket.a" plovercasket.o)
+    "$kit/toolchain/bin/ld.lld" -m elf_x86_64 -shared -soname libplovercasket.so.1 \
+        --version-script "$tree/dist/library/exports" -z defs -z text -z relro -z now -z noexecstack --eh-frame-hdr \
+        --gc-sections --no-dependent-libraries --strip-all --build-id=sha1 --fatal-warnings --threads=1 \
+        -o "$3/libplovercasket.so" "$made/plovercasket.o" "$kit/toolchain/lib/libc.so.6"
+    rm -rf "$made"
 }

@@ -1,8 +1,22 @@
 # What the launcher ./tor, dist/from-source, dist/install and dist/package share: POSIX sh, read by each of them, which
 # has set `root`.
+LC_ALL=C
+export LC_ALL
+unset IFS CDPATH GREP_OPTIONS GZIP
 
+# Tells a text in one line, after the name of the program that tells it, tor if none is given.
 say() {
-    echo "tor: $1" >&2
+    printf '%s: %s\n' "${2-tor}" "$(printf %s "$1" | tr '\000-\037' '?')" >&2
+}
+
+# Whether the PATH has these commands; tells which it has not.
+has_commands() {
+    for command in "$@"; do
+        if ! command -v "$command" >/dev/null; then
+            printf 'tor: %s is not on the PATH\n' "$command" >&2
+            return 1
+        fi
+    done
 }
 
 # Whether this is a machine for which there is a program; tells what it is if not.
@@ -16,14 +30,46 @@ is_our_machine() {
 # The processor that the program is for, since it hashes faster on the newer of the two: the one whose instructions all
 # processors of this machine have.
 processor() {
-    { cat /proc/cpuinfo 2>/dev/null || true; } | awk '/^flags/ {
+    told=/proc/cpuinfo
+    if ! [ -r $told ]; then told=/dev/null; fi
+    awk '/^flags/ {
             for (word in has) delete has[word]
             for (i = 3; i <= NF; i++) has[$i]
             count = split("avx avx2 bmi1 bmi2 f16c fma abm movbe xsave", needed, " ")
             for (i = 1; i <= count; i++) if (!(needed[i] in has)) older = 1
             found = 1
         }
-        END { print found && !older ? "x86-64-v3" : "x86-64-v2" }'
+        END { print found && !older ? "x86-64-v3" : "x86-64-v2" }' $told
+}
+
+is_digest() {
+    case $1 in *[!0-9a-f]*) return 1 ;; esac
+    [ ${#1} -eq 64 ]
+}
+
+# The digest that a file like dist/built-from names for the program of a processor; nothing if it names none.
+named_digest() (
+    while read -r first second; do
+        if [ "$first" = "$1" ] && is_digest "$second"; then echo "$second"; fi
+    done <"$2"
+)
+
+# Whether a file has this digest.
+has_digest() {
+    [ "$(sha256sum 2>/dev/null <"$1")" = "$2  -" ]
+}
+
+# Whether a folder belongs to this user or to root, and no other can write it. A link to one counts as none.
+is_ours_alone() {
+    owned='-user 0'
+    if [ -O "$1" ]; then owned=; fi
+    [ -n "$(find "$1" -prune -type d $owned ! -perm -020 ! -perm -002 2>/dev/null)" ]
+}
+
+# Makes a folder, if it is not there: whether it can be written here, and by no other.
+can_keep() {
+    if ! [ -d "$1" ]; then (umask go-w && mkdir "$1") 2>/dev/null || true; fi
+    is_ours_alone "$1" && [ -w "$1" ]
 }
 
 # Whether a program starts here; tells what stops it. A shell would read one that is of no kind it knows as a script of
@@ -42,8 +88,10 @@ starts() {
     said=$(printf '%s\n' "$said" | head -n 1)
     said=${said##*"$1: "}
     case $said in
-        *'lacks a feature of '*) said="this processor lacks instructions that it needs (${said##*lacks a feature of }" &&
-            said="${said%%,*})" ;;
+        *'lacks a feature of '*)
+            said=${said##*lacks a feature of }
+            said="this processor lacks instructions that it needs (${said%%,*})"
+            ;;
     esac
     say "the program does not start here: ${said:-it ends with status $status}"
     return 1
