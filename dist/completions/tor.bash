@@ -4,10 +4,15 @@
 _tor_options() {
     case $1 in
         '') echo '-h --help -V --version' ;;
-        make) echo '--name --piece-length --kind --announce --private --tail --attrs --how --workers --span --check-after --out -h --help' ;;
-        check) echo '--null --json -h --help' ;;
-        magnet) echo '--name --trackers -h --help' ;;
-        recheck) echo '--files --bad --null --json --workers -h --help' ;;
+        make) echo '--name --piece-length --kind --announce --private --tail --attrs --files-from --how --workers --span --check-after --out --plan --part --explain -h --help' ;;
+        plan) echo '--name --piece-length --kind --announce --private --tail --attrs --files-from --span --out --explain -h --help' ;;
+        join) echo '--out --explain -h --help' ;;
+        scan) echo '--files-from --null --json --explain -h --help' ;;
+        check) echo '--null --json --roots --explain -h --help' ;;
+        magnet) echo '--name --trackers --explain -h --help' ;;
+        edit) echo '--announce --no-announce --out --explain -h --help' ;;
+        recheck) echo '--files --bad --null --json --workers --keep-going --no-links --brief --part --explain -h --help' ;;
+        prove | verify) echo '--explain -h --help' ;;
         *) echo '-h --help' ;;
     esac
 }
@@ -18,16 +23,16 @@ _tor_value() {
     case $1 in
         --kind) echo 'v1 v2 hybrid' ;;
         --how) echo 'one halves board streams' ;;
-        --attrs | --out) echo files ;;
+        --attrs | --files-from | --out | --plan) echo files ;;
         --workers | --piece-length) echo auto ;;
-        --name | --announce | --span) echo any ;;
+        --name | --announce | --span | --part) echo any ;;
     esac
 }
 
 # Whether a file goes to this place, from 1, behind a command.
 _tor_takes_file() {
     case $1-$2 in
-        make-1 | check-1 | magnet-1 | prove-1 | recheck-1 | recheck-2 | verify-4) return 0 ;;
+        make-1 | plan-1 | join-* | scan-1 | check-1 | magnet-1 | edit-1 | prove-1 | recheck-1 | recheck-2 | verify-4) return 0 ;;
         *) return 1 ;;
     esac
 }
@@ -42,7 +47,7 @@ _tor_words() {
 }
 
 _tor() {
-    local commands='make check magnet prove verify recheck help'
+    local commands='make plan join scan check magnet edit prove verify recheck help'
     local word=${COMP_WORDS[COMP_CWORD]} option='' command='' count=0 i
     # bash takes the = of --kind=v2 for a word of its own.
     for ((i = 1; i < COMP_CWORD; i++)); do
