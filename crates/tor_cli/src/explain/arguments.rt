@@ -42,8 +42,13 @@ fn entry_reason(system: &HostRuntime, list: &str) -> Result<Option<String>, Allo
     let Some(bytes) = bytes_at(system, list) else {
         return Ok(None);
     };
+    // Behind the last zero byte there is no path, if there is nothing.
+    let listed = bytes.strip_suffix(&[0u8]).unwrap_or(&bytes);
+    if bytes.is_empty() {
+        return Ok(None);
+    }
     let mut number = 0u64;
-    'paths: for path in bytes.split(|byte| *byte == 0) {
+    'paths: for path in listed.split(|byte| *byte == 0) {
         number = number.saturating_add(1);
         if let Some(text) = part_reason(system, list, number, path)? {
             return Ok(Some(text));

@@ -5,7 +5,7 @@ ghost use Rattle.tor_explain.specs.Plain.{IsPlainText};
 use crate::command::Request;
 use crate::explain::again::{bytes_at, inventory_at, paths_at};
 use crate::explain::sources::{list_of, place_of};
-use crate::explain::torrents::file_reason;
+use crate::explain::torrents::{file_reason, read_fault_reason};
 use crate::explain::words::{CHANGED, MISSING, SEVERAL_FILES, words_of_make};
 use std::alloc::AllocError;
 use std::io;
@@ -86,9 +86,8 @@ fn hashing_reason(
     let alloc = system.alloc();
     match fault {
         EngineError::Read { file, fault, .. } => {
-            let why = format!(in alloc; "{fault}")?;
             let path = path_of(system, request, *file)?;
-            file_reason(alloc, *file, &path, &why)
+            read_fault_reason(alloc, *file, &path, fault)
         }
         EngineError::Changed { file } => {
             let path = path_of(system, request, *file)?;

@@ -7,7 +7,7 @@ use crate::explain::again::{bytes_at, path_in, torrent_at};
 use crate::explain::sources::torrent_of;
 use crate::explain::words::{CHANGED, WORKERS};
 use std::alloc::{AllocError, Global};
-use std::io;
+use std::io::{self, ErrorKind};
 use tor_check::Refusal;
 use tor_explain::{code_text, file_text, place_text, plain_text, refusal_text};
 use tor_recheck::RecheckError;
@@ -43,9 +43,8 @@ pub fn recheck_reason(
     let alloc = system.alloc();
     match error {
         RecheckError::Read { file, fault, .. } => {
-            let why = format!(in alloc; "{fault}")?;
             let path = path_of(system, request, *file)?;
-            file_reason(alloc, *file, &path, &why)
+            read_fault_reason(alloc, *file, &path, fault)
         }
         RecheckError::Changed { file } => {
             let path = path_of(system, request, *file)?;
@@ -53,6 +52,22 @@ pub fn recheck_reason(
         }
         _ => plain_text(alloc, WORKERS),
     }
+}
+
+/// Which file was not read, and the system's reason; or, if the file is another one than was listed, that it changed.
+pub fn read_fault_reason(
+    alloc: Global,
+    file: u64,
+    path: &Option<FilePath>,
+    fault: &io::Error,
+) -> Result<String, AllocError>
+    ensures { IfOk result (λ text. IsPlainText (string_bytes text)) }
+{
+    if matches!(fault.kind(), ErrorKind::InvalidData) {
+        return file_reason(alloc, file, path, CHANGED);
+    }
+    let why = format!(in alloc; "{fault}")?;
+    file_reason(alloc, file, path, &why)
 }
 
 /// Which file a fault is of, by its path if there is one of its number now, and why.

@@ -69,7 +69,8 @@ fn has_file(system: &HostRuntime, place: &str, torrent: &Torrent) -> Result<bool
     }
     let count = paths.len();
     let source = FolderSource::at(system, alloc, place, paths)?;
-    Ok((0..count).any(|file| matches!(source.length(file as u64), Ok(Some(_)))))
+    // Of what the system does not tell nobody says that it is not there.
+    Ok((0..count).any(|file| !matches!(source.length(file as u64), Ok(None))))
 }
 
 fn is_file(system: &HostRuntime, place: &str) -> bool {
