@@ -242,7 +242,7 @@ def test_of_a_stream_that_cannot_be_read_on(program, folder):
     parts, told = watch(program, words, meanwhile=(place / 'b').unlink)
     expect_equal('status and output', (3, b''), (told.status, told.out))
     check_lines(parts, told.err, size + 5, ERASED + b'tor: E1 Read file 1 at 0\n'
-                + b'tor: file 1: invalid data\n')
+                + b'tor: file 1: %s\n' % CHANGED)
 
 
 def test_of_a_stream_that_shrinks_or_grows(program, folder):
