@@ -9,7 +9,7 @@ use Rattle.tor_source.specs.declared.input.InputFault.TheVariants.{TooLong, Read
 ends_after : (limit left : ℕ) (fault : InputFault) (before bytes : List ℕ) → length before + left ≡ limit
     → EndsInput left fault bytes → EndsInput limit fault (before ++ bytes)
 ends_after limit left TooLong before bytes within h = simp length-append (omega (arith, within, h))
-ends_after limit left Read before bytes within h = simp length-append (omega (arith, within, h))
+ends_after limit left (Read fault) before bytes within h = simp length-append (omega (arith, within, h))
 ends_after limit left Memory before bytes within h = simp length-append (omega (arith, within, h))
 
 -- a fault after some bytes that were within the limit, where so many were left of it

@@ -21,5 +21,5 @@ ReadsSome old new P = (bytes : List ℕ) × Consumes old new bytes × P bytes
 -- how much was read where it ended in this fault
 abbrev pub EndsInput : ℕ → InputFault → List ℕ → Type 0
 EndsInput limit TooLong bytes = limit < length bytes
-EndsInput limit Read bytes = length bytes ≤ limit
+EndsInput limit (Read fault) bytes = length bytes ≤ limit
 EndsInput limit Memory bytes = length bytes ≤ limit

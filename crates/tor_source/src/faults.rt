@@ -1,7 +1,7 @@
 //! Why the files below a folder are no list, and which faults of the system say that nothing is there.
-ghost use Rattle.std.specs.Prelude.{◌≡◌};
+ghost use Rattle.std.specs.Prelude.{◌≡◌, false};
 ghost use Rattle.std.specs.IoError.{error_kind};
-ghost use Rattle.tor_source.specs.Faults.{fault_of_kind, fault_of_name, is_absence};
+ghost use Rattle.tor_source.specs.Faults.{fault_of_kind, fault_of_name, is_absence, is_absence_at};
 ghost use Rattle.tor_source.specs.declared.faults.ScanFault.TheVariants.{Memory};
 
 use std::alloc::{AllocError, AllocFailed};
@@ -33,6 +33,21 @@ pub fn is_absence(kind: io::ErrorKind) -> bool
     ensures { result ≡ is_absence kind }
 {
     matches!(kind, io::ErrorKind::NotFound | io::ErrorKind::NotADirectory)
+}
+
+/// The most bytes of a place that the system takes.
+const MAX_PLACE: usize = 4095;
+
+/// Whether a fault of this kind says that nothing is at this place. A name that is too long for the file system is one
+/// that nothing has.
+pub(crate) fn is_absence_at(place: &str, kind: io::ErrorKind) -> bool
+    ensures value { result ≡ is_absence_at place.now kind }
+    ensures more { result ≡ false → is_absence kind ≡ false }
+{
+    match kind {
+        io::ErrorKind::InvalidFilename => place.len() <= MAX_PLACE,
+        kind => is_absence(kind),
+    }
 }
 
 impl From<AllocError> for ScanFault {

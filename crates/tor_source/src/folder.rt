@@ -221,8 +221,8 @@ impl<R: Files + Clone + Drop> FolderSource<R> {
     }
 
     /// Whether one of the files is the very one of which the system told this, perhaps under another name. A file that
-    /// was listed, or met, is the one that was told then. Of others the system is asked: a place with nothing now has another
-    /// file, and of any other it must tell.
+    /// was listed, or met, is the one that was told then. Of others the system is asked: a place with nothing now has
+    /// another file, and of any other it must tell.
     pub fn has(&self, file: &Metadata) -> Result<bool, ScanFault>
         ensures { IfErr result (λ fault. (fault ≡ Memory) ⊎ (fault ≡ System)) }
     {

@@ -8,7 +8,7 @@ use crate::buffer::zeros;
 use crate::filling::{FillFault, fill};
 use crate::intake::{Dropped, Intake};
 use std::alloc::{AllocError, Global};
-use std::io::Read;
+use std::io::{self, Read};
 
 /// The most bytes that the program reads of an input.
 pub const MAX_INPUT_LENGTH: u64 = 1 << 30;
@@ -17,10 +17,10 @@ pub const MAX_INPUT_LENGTH: u64 = 1 << 30;
 const BUFFER_LENGTH: usize = 1 << 21;
 
 /// Why an input was not read whole.
-#[derive(Clone, Copy, Debug, PartialEq, Eq)]
+#[derive(Clone, Copy, Debug)]
 pub enum InputFault {
-    /// The reader had a fault; an interrupted read is one.
-    Read,
+    /// The reader had this fault; an interrupted read is one.
+    Read(io::Error),
     /// More bytes came than the limit allows.
     TooLong,
     Memory,
@@ -95,7 +95,7 @@ fn fill_part<R: Read>(reader: &mut R, buffer: &mut [u8], room: u64) -> Result<us
 {
     match fill(reader, buffer, room) {
         Ok(count) => Ok(count),
-        Err(FillFault::Read { .. }) => Err(InputFault::Read),
+        Err(FillFault::Read { fault, .. }) => Err(InputFault::Read(fault)),
         Err(FillFault::TooLong) => Err(InputFault::TooLong),
     }
 }

@@ -4,7 +4,7 @@ ghost use Rattle.std.specs.Io.{ReadsAtMost};
 ghost use Rattle.std.specs.Io.KnownBytes.{ReadConsumes};
 ghost use Rattle.std.specs.String.{string_bytes};
 
-use crate::listed::{ListedFile, ListedFiles, open_listed};
+use crate::listed::{ListedFile, ListedFiles, changed, open_listed};
 use crate::regular;
 use crate::unlinked::Met;
 use std::alloc::{AllocError, Global};
@@ -61,7 +61,7 @@ impl<R: Files> LazyFile<R> {
     fn open(&mut self) -> io::Result<()> {
         if let State::Unopened = self.state {
             self.state = State::Failed;
-            self.state = State::Open(open_at(&self.rt, &self.place, &self.listed)?);
+            self.state = State::Open(open_at(&self.rt, &self.place, &mut self.listed)?);
         }
         Ok(())
     }
@@ -129,15 +129,20 @@ fn reader_of<R: Files + Clone + Drop>(
     Ok(LazyFile::new(rt.clone()?, place, listed))
 }
 
-// The file at a place, opened. One that was listed has to be as it was.
-fn open_at<R: Files>(rt: &R, place: &str, listed: &Option<ListedFile>) -> io::Result<R::File> {
-    let Some(listed) = listed else {
-        return regular::open_at(rt, place);
-    };
-    match open_listed(rt, place, listed)? {
-        Some(file) => Ok(file),
-        None => Err(changed()),
+// The file at a place, opened. One that was listed has to be as it was; of one that was not, and that tells of no byte,
+// that is kept, so that a byte of it is a fault.
+fn open_at<R: Files>(rt: &R, place: &str, listed: &mut Option<ListedFile>) -> io::Result<R::File> {
+    if let Some(listed) = listed {
+        return match open_listed(rt, place, listed)? {
+            Some(file) => Ok(file),
+            None => Err(changed()),
+        };
     }
+    let (file, metadata) = regular::open_at(rt, place)?;
+    if metadata.len() == 0 {
+        *listed = Some(ListedFile::of(&metadata));
+    }
+    Ok(file)
 }
 
 // One read of an open file, of which so many bytes were given before. As many as were listed have to come, if it was.
@@ -158,11 +163,6 @@ fn read_on<F: Read>(
         ),
         _ => Ok(count),
     }
-}
-
-// The file is not as it was listed.
-fn changed() -> io::Error {
-    io::Error::from(ErrorKind::InvalidData)
 }
 
 impl<R: Files> Read for LazyFile<R> {

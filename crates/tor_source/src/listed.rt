@@ -1,9 +1,11 @@
 //! Regular files as a listing told of them. Of a file that is not there any more, or not as it was listed, no byte is
 //! given.
 ghost use Rattle.std.specs.Fs.{file_type, IsFile, metadata_len};
+ghost use Rattle.std.specs.IoError.{error_kind};
+ghost use Rattle.std.specs.declared.io.ErrorKind.TheVariants.{InvalidData, Other};
 ghost use Rattle.std.specs.Prelude.{◌≡◌, ◌+◌, ◌≤◌, [], IfOk, IsTrue, OnOk, length, vec_len};
 
-use crate::faults::is_absence;
+use crate::faults::is_absence_at;
 use std::alloc::{AllocError, Global};
 use std::fs::{self, Metadata, OpenFile};
 use std::io;
@@ -119,6 +121,20 @@ impl ListedFiles {
     }
 }
 
+/// That a file tells of no byte, and gives one.
+pub(crate) fn untold() -> io::Error
+    ensures { error_kind result ≡ Other }
+{
+    io::Error::other("it tells of no byte, and gives one")
+}
+
+/// That a file is not as it was listed.
+pub(crate) fn changed() -> io::Error
+    ensures { error_kind result ≡ InvalidData }
+{
+    io::Error::from(io::ErrorKind::InvalidData)
+}
+
 /// The file that was listed at a place, opened to be read; None if it is not there, or no more as it was listed. It is
 /// opened before it is asked what it is, so that what is put in its place afterwards gives nothing.
 pub(crate) fn open_listed<R: Files>(
@@ -128,7 +144,7 @@ pub(crate) fn open_listed<R: Files>(
 ) -> io::Result<Option<R::File>> {
     let file = match fs::open(rt, place) {
         Ok(file) => file,
-        Err(fault) if is_absence(fault.kind()) => return Ok(None),
+        Err(fault) if is_absence_at(place, fault.kind()) => return Ok(None),
         Err(fault) => return Err(fault),
     };
     let metadata = file.metadata()?;

@@ -15,6 +15,9 @@ use std::os::fd::AsRawFd;
 use std::rt::Files;
 use tor_tree::{FilePath, MAX_NAMES, Name};
 
+/// The most bytes of a name that Linux's own file systems have.
+const MAX_NAME: usize = 255;
+
 /// The folders that lead to the file that was looked for last, as far as they are known to be folders.
 #[derive(Drop)]
 pub(crate) struct Way<R: Files> {
@@ -95,8 +98,17 @@ where
     match sought_at(rt, alloc, way, names) {
         Ok(sought) => Ok(sought),
         Err(fault) if matches!(fault.kind(), ErrorKind::OutOfMemory) => Err(ScanFault::Memory),
-        Err(fault) if is_absence(fault.kind()) => Ok(Sought::NotTaken(Refusal::Missing)),
+        Err(fault) if says_missing(names, fault.kind()) => Ok(Sought::NotTaken(Refusal::Missing)),
         Err(fault) => Ok(Sought::NotTaken(Refusal::System(fault))),
+    }
+}
+
+// Whether a fault of this kind says that these names lead to nothing. A longer name than `MAX_NAME` that the
+// system refuses is one that nothing has; but what stands at a place that is too long for it is not told.
+fn says_missing(names: &[Name], kind: ErrorKind) -> bool {
+    match kind {
+        ErrorKind::InvalidFilename => names.iter().any(|name| name.as_str().len() > MAX_NAME),
+        kind => is_absence(kind),
     }
 }
 

@@ -2,13 +2,14 @@
 ghost use Rattle.std.specs.Prelude.{◌≡◌, ◌⊎◌, IfErr};
 ghost use Rattle.tor_source.specs.declared.faults.ScanFault.TheVariants.{Memory, System};
 
-use crate::faults::{ScanFault, is_absence};
+use crate::faults::{ScanFault, is_absence_at};
 use std::fs::Metadata;
+use std::io::ErrorKind;
 use std::os::unix::fs::MetadataExt;
 use std::rt::Files;
 
 /// Whether the system has this file at one of the places. A link there is followed. A place with nothing has another
-/// file; of any other the system must tell.
+/// file, as has one whose links lead nowhere; of any other the system must tell.
 pub(crate) fn is_at_one_of<R: Files>(
     rt: &R,
     places: &[String],
@@ -29,7 +30,8 @@ fn is_at<R: Files>(rt: &R, place: &str, file: &Metadata) -> Result<bool, ScanFau
 {
     match rt.metadata(place) {
         Ok(there) => Ok(there.ino() == file.ino() && there.dev() == file.dev()),
-        Err(fault) if is_absence(fault.kind()) => Ok(false),
+        Err(fault) if matches!(fault.kind(), ErrorKind::FilesystemLoop) => Ok(false),
+        Err(fault) if is_absence_at(place, fault.kind()) => Ok(false),
         Err(fault) => Err(ScanFault::from(fault)),
     }
 }

@@ -8,10 +8,11 @@ ghost use Rattle.tor_source.specs.steps.Met.{met_of_kind, met_of_refusal};
 
 use crate::faults::{ScanFault, is_absence};
 use crate::folder::FolderSource;
-use crate::listed::{FileNumber, ListedFile, read_listed};
+use crate::listed::{FileNumber, ListedFile, read_listed, untold};
 use crate::named::{Sought, Way, look_for};
 use crate::places::places_of;
 use crate::refused::{OtherKind, Refusal};
+use crate::regular::gives_byte;
 use std::alloc::{AllocError, Global};
 use std::fs::Metadata;
 use std::io::{self, ErrorKind};
@@ -35,7 +36,23 @@ impl<R: Files + Clone + Drop> FolderSource<R> {
         R::File: AsRawFd,
         ensures { IfOk result (λ source. source ≡ map (place_of place.now) files.items) }
     {
-        let met = met_below(rt, alloc, place, &files)?;
+        FolderSource::wanted_without_links(rt, alloc, place, files, &[])
+    }
+
+    /// As `at_without_links`, but a file is looked for only if it is wanted, or nothing tells whether it is. One that is
+    /// not is not there.
+    pub fn wanted_without_links(
+        rt: &R,
+        alloc: Global,
+        place: &str,
+        files: Vec<FilePath>,
+        wanted: &[bool],
+    ) -> Result<FolderSource<R>, AllocError>
+    where
+        R::File: AsRawFd,
+        ensures { IfOk result (λ source. source ≡ map (place_of place.now) files.items) }
+    {
+        let met = met_below(rt, alloc, place, &files, wanted)?;
         let places = places_of(alloc, place, &files)?;
         let mut source = FolderSource::of_places(rt, alloc, places)?;
         source.met = met;
@@ -68,6 +85,8 @@ impl Met {
     /// How many bytes the file at a place has that was met so; None if it is not there. One that was empty is asked for
     /// again, and has to be the same.
     pub(crate) fn length_at<R: Files>(&self, rt: &R, place: &str) -> io::Result<Option<u64>>
+    where
+        R::File: FileExt,
         ensures refused { IfErr result (λ fault. is_absence (error_kind fault) ≡ false) }
         ensures linked { self.now ≡ Link → result ≡ Ok None }
         ensures absent { self.now ≡ Nothing → result ≡ Ok None }
@@ -105,11 +124,14 @@ impl Met {
 // The length of a file that was listed as empty: none if it is not the same any more. A link at its place is not
 // followed.
 fn still_empty<R: Files>(rt: &R, place: &str, listed: &ListedFile) -> io::Result<Option<u64>>
+where
+    R::File: FileExt,
     ensures { IfErr result (λ fault. is_absence (error_kind fault) ≡ false) }
 {
     match rt.symlink_metadata(place) {
-        Ok(metadata) if listed.is_still(&metadata) => Ok(Some(0)),
-        Ok(_) => Ok(None),
+        Ok(metadata) if !listed.is_still(&metadata) => Ok(None),
+        Ok(_) if gives_byte(rt, place) => Err(untold()),
+        Ok(_) => Ok(Some(0)),
         Err(fault) if is_absence(fault.kind()) => Ok(None),
         Err(fault) => Err(fault),
     }
@@ -126,13 +148,14 @@ pub(crate) fn is_among(met: &[Met], file: &Metadata) -> bool {
     false
 }
 
-/// How each of these files stands below a folder, in their order. A link at the folder itself is followed, and none
-/// below it: what leads to a file has to be folders. If no folder is there, none of the files is.
+/// How each of these files stands below a folder, in their order, if it is wanted. A link at the folder itself is
+/// followed, and none below it: what leads to a file has to be folders. If no folder is there, none of the files is.
 pub(crate) fn met_below<R: Files>(
     rt: &R,
     alloc: Global,
     root: &str,
     files: &[FilePath],
+    wanted: &[bool],
 ) -> Result<Vec<Met>, AllocError>
 where
     R::File: AsRawFd,
@@ -142,7 +165,7 @@ where
         return Ok(vec![in alloc; met; files.len()]?);
     }
     match Way::at_top(rt, alloc, root) {
-        Ok(way) => met_on_way(rt, alloc, way, files),
+        Ok(way) => met_on_way(rt, alloc, way, files, wanted),
         Err(ScanFault::Memory) => Err(AllocError),
         Err(_) => Ok(vec![in alloc; Met::Untold(ErrorKind::Other); files.len()]?),
     }
@@ -164,6 +187,7 @@ fn met_on_way<R: Files>(
     alloc: Global,
     way: Way<R>,
     files: &[FilePath],
+    wanted: &[bool],
 ) -> Result<Vec<Met>, AllocError>
 where
     R::File: AsRawFd,
@@ -172,13 +196,31 @@ where
     let mut way = way;
     let mut met = Vec::with_capacity(alloc, files.len())?;
     'files: for file in files {
-        let sought = match look_for(rt, alloc, &mut way, file.names()) {
-            Ok(sought) => sought,
-            Err(_) => return Err(AllocError),
-        };
-        met.push(met_of(sought))?;
+        let is_wanted = *wanted.get(met.len()).unwrap_or(&true);
+        met.push(met_if(rt, alloc, &mut way, file, is_wanted)?)?;
     }
     Ok(met)
+}
+
+// How this file stands, if it is wanted.
+fn met_if<R: Files>(
+    rt: &R,
+    alloc: Global,
+    way: &mut Way<R>,
+    file: &FilePath,
+    is_wanted: bool,
+) -> Result<Met, AllocError>
+where
+    R::File: AsRawFd,
+    ensures unwanted { is_wanted ≡ false → result ≡ Ok Nothing }
+{
+    if !is_wanted {
+        return Ok(Met::Nothing);
+    }
+    match look_for(rt, alloc, way, file.names()) {
+        Ok(sought) => Ok(met_of(sought)),
+        Err(_) => Err(AllocError),
+    }
 }
 
 // How a file stands of which this was found.
