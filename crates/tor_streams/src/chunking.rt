@@ -26,7 +26,7 @@ impl Chunking {
         ensures cut { IsChunking result }
         ensures told { told_of result ≡ (kind, tail, piece_length) }
     {
-        let size = piece_length * lane_span(piece_length, span) as u64;
+        let size = piece_length * lane_span(kind, piece_length, span) as u64;
         Chunking {
             kind,
             piece_length,

@@ -149,7 +149,8 @@ impl Cutter {
     }
 
     // What waits. A buffer that is full is handed over as it is, in exchange for another; for what is copied instead,
-    // one that was given back is let go, so that no more is held.
+    // one that was given back is let go, so that no more is held. Both may wait for what workers have, and what was
+    // held back before was put, so that they have all that is waited for.
     fn take_waiting<T: Wait>(&mut self, rt: &T, alloc: Global) -> Result<Vec<u8>, AllocError>
         requires within { self.old.filled ≤ vec_len self.old.buffer }
         ensures bytes { IfOk result (λ bytes. bytes.items ≡ take self.old.filled self.old.buffer.items) }
@@ -158,7 +159,7 @@ impl Cutter {
             × (self.new.zeros ≡ self.old.zeros) × (self.new.next ≡ self.old.next) }
     {
         if self.filled < self.buffer.len() {
-            self.spares.let_one_go(rt);
+            self.spares.let_one_go(rt, self.filled);
             let (waiting, _) = self.buffer.as_slice().split_at(self.filled);
             return Vec::from_slice(alloc, waiting);
         }

@@ -1,5 +1,5 @@
 //! A lane whose feeder reads in the calling thread, while its workers take and hash in others.
-ghost use Rattle.std.specs.Prelude.{◌≡◌, ◌≤◌, [], Err, IfErr, IfOk, false, map, true};
+ghost use Rattle.std.specs.Prelude.{◌≡◌, ◌*◌, ◌+◌, ◌≤◌, [], Err, IfErr, IfOk, false, map, true};
 ghost use Rattle.std.specs.List.{list_any};
 ghost use Rattle.std.specs.Thread.{IsSync};
 ghost use Rattle.tor_lane.specs.Lane.{FeedsLaneOf, IsEnded, IsOpen, put_by};
@@ -47,10 +47,18 @@ fn cutter_and_workers(
     ensures workers { IfOk result (λ both. AreWorkers chunking both.0.feeder both.1.items) }
 {
     let (feeder, takers) = lane(alloc, workers)?;
-    let (spares, mut give_back) = pool(alloc, 2 * workers as usize)?;
+    let (spares, mut give_back) = pool(alloc, room_of_pool(workers), chunking.size as usize)?;
     let workers = stream_workers(alloc, takers, &mut give_back)?;
     let cutter = Cutter::new(alloc, feeder, spares, chunking)?;
     Ok((cutter, workers))
+}
+
+/// How many buffers are about at most: two for each worker in the lane, one that it hashes, one that is held back, and
+/// one that is read into. Not one of them is lost then.
+fn room_of_pool(workers: u32) -> usize
+    ensures { result ≡ 3 * workers + 2 }
+{
+    3 * workers as usize + 2
 }
 
 /// What the workers' thread promises to answer: all workers of the feeder's lane, each at its mark. It has no worker:

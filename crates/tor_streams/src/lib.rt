@@ -5,8 +5,9 @@
 //! - `feeding.rt` reads in the calling thread: `read_streams.rt` goes to the end of each reader, and `cutter.rt` puts
 //!   chunks into a lane, by `filling.rt`. `chunking.rt` says how contents are cut, and `lane_span.rt` how many pieces a
 //!   chunk has.
-//! - Its workers (`stream_worker.rt`) take and hash them (`chunk_sums.rt`), and give their buffers back (`spares.rt`).
-//!   Pieces of small chunks wait until eight are there; their SHA-1s are owed till the end (`owed_chunks.rt`).
+//! - Its workers (`stream_worker.rt`) take and hash them (`chunk_sums.rt`), and give their buffers back (`spares.rt`):
+//!   while too much is held, the thread that reads waits for those. Pieces of small chunks wait until eight are there;
+//!   their SHA-1s are owed till the end (`owed_chunks.rt`).
 //! - `fed_sums.rt` and `stream_sums.rt` put together what these sum up to.
 //! - [`Gate`] (`gate.rt`): what tests have workers pass.
 //! - [`laws`] (`laws.rt`): the most bytes of a unit.

@@ -97,7 +97,7 @@ fn fault_of(stop: Stop) -> InputFault
     ensures { (limit : ℕ) (bytes : List ℕ) → EndsReading limit stop bytes → EndsInput limit result bytes }
 {
     match stop {
-        Stop::Read { .. } => InputFault::Read,
+        Stop::Read { fault, .. } => InputFault::Read(fault),
         Stop::TooLong => InputFault::TooLong,
         Stop::Refused => InputFault::Memory,
     }

@@ -18,10 +18,13 @@ use tor_tree::Kind;
 pub const MAX_UNIT_LENGTH: u64 = 1 << 30;
 
 /// What the contents of readers sum up to, each of which is read once, to its end, one after the other. The calling
-/// thread reads, and puts units of `span` pieces, or of at most eight if those have more than 2 MiB, into a channel
-/// that holds at most two for each worker; so many workers, from 1 to 64, take and hash them. In a hybrid zeros fill
-/// the last piece of each content that a byte of a later one follows, and with a tail that of the last content with
-/// bytes too.
+/// thread reads, and puts units of `span` pieces, or of fewer if those have more than 2 MiB, into a channel that holds
+/// at most two for each worker; so many workers, from 1 to 64, take and hash them. In a hybrid zeros fill the last
+/// piece of each content that a byte of a later one follows, and with a tail that of the last content with bytes too.
+///
+/// Such a unit has at most eight pieces, and of pieces of more than 1 MiB one, unless the kind has SHA-1, the span at
+/// least eight pieces, and a piece at most 8 MiB: then it has eight. At most 192 MiB of units are held, or two units if
+/// those are longer.
 ///
 /// # Errors
 ///
