@@ -4,7 +4,7 @@ use Rattle.std.proofs.Common.{cond, List, [], ◌∷◌, ◌++◌, length, map, 
 use Rattle.std.proofs.Common.{arith, is_none, is_some, refl, ap, ap₂, sym, subst, ◌∙◌, append-nil, option_map}
 use Rattle.std.specs.List.{AllByRecursion, flat_map, range_with_len}
 use Rattle.std.specs.Option.{option_or}
-use Rattle.std.specs.Prelude.{Err, IfOk, Ok, OnOk, Result}
+use Rattle.std.specs.Prelude.{Err, IfErr, IfOk, Ok, OnOk, Result}
 use Rattle.std.proofs.lemmas.Grind.{flat_map-append}
 use Rattle.std.proofs.lemmas.List.{map-append, take_more}
 use Rattle.tor_plan.specs.Pieces.{pieces_of_unit}
@@ -12,17 +12,20 @@ use Rattle.tor_plan.specs.PlanFacts.{PlanFacts}
 use Rattle.tor_plan.specs.Present.{is_there}
 use Rattle.tor_plan.specs.declared.units.Part.{Part}
 use Rattle.tor_plan.specs.declared.units.PlanUnit.{PlanUnit}
+use Rattle.tor_source.specs.Answers.{Answers}
 use Rattle.tor_source.specs.Source.{SourceFacts}
 use Rattle.tor_sums.specs.Contents.{contents_in}
 use Rattle.tor_sums.specs.Fault.{byte_fault, first_of, part_fault, unit_fault}
 use Rattle.tor_sums.specs.declared.errors.EngineError.{EngineError}
 use Rattle.tor_sums.specs.declared.errors.EngineError.TheVariants.{Changed, Missing, Read, Resources, StreamTooLong}
 use Rattle.tor_sums.specs.steps.Each.{SumUpEach}
+use Rattle.tor_sums.specs.steps.Given.{IsGivenRead}
 use Rattle.tor_sums.proofs.FirstOf.{neither, or_none}
 use Rattle.tor_sums.proofs.PartReads.{all_append}
 use Rattle.tor_engine.specs.PieceFault.{piece_fault, pieces_fault}
 use Rattle.tor_engine.specs.PieceHashes.{hash_if_there}
-use Rattle.tor_engine.specs.Readable.{HasHashWithin, error_of_fault, hash_if_readable, piece_faults, read_faults}
+use Rattle.tor_engine.specs.Readable.{HasHashWithin, IsNoReadFault, error_of_fault, hash_if_readable, piece_faults}
+use Rattle.tor_engine.specs.Readable.{read_faults}
 use Rattle.tor_engine.specs.There.{HaveHashesOf, is_within}
 use Rattle.tor_engine.specs.declared.piece_hash.FoundPiece.{FoundPiece}
 use Rattle.tor_engine.specs.declared.piece_hash.FoundPiece.TheVariants as found
@@ -42,6 +45,20 @@ pub both_ok : {T E : Type 0} (result : Result T E) (P : Type 0) (Q : T → Type 
     → IfOk result (λ one. P × Q one)
 both_ok (Ok one) P Q first second = (first, second)
 both_ok (Err error) P Q first second = tt
+
+pub both_err : {T E : Type 0} (result : Result T E) (P Q : E → Type 0) → IfErr result P → IfErr result Q
+    → IfErr result (λ error. P error × Q error)
+both_err (Ok one) P Q first second = tt
+both_err (Err error) P Q first second = (first, second)
+
+-- what is answered of reads alone, and is none of their faults
+pub no_read : {F : Type 0} (answers : Answers F) (lengths : List ℕ) (error : EngineError F)
+    → IsGivenRead answers lengths error → read_faults (Some error) ≡ [] → IsNoReadFault error
+no_read answers lengths (Read file start fault) given none = cc
+no_read answers lengths (Changed file) given none = tt
+no_read answers lengths (Missing file) given none = absurd given.0
+no_read answers lengths Resources given none = tt
+no_read answers lengths (StreamTooLong file) given none = absurd given
 
 pub none_held : {A : Type 0} (xs : List A) → length xs ≡ 0 → xs ≡ []
 none_held [] none = refl

@@ -1,5 +1,10 @@
--- What is known of each of a list, and of one more.
-use Rattle.std.proofs.Common.{◌<◌, ℕ, zero, suc, List, [], ◌∷◌, ◌++◌, length, get_or, arith}
+-- What is known of each of a list, and of one more; and what of any source may be answered.
+use Rattle.std.proofs.Common.{◌<◌, ℕ, zero, suc, List, [], ◌∷◌, ◌++◌, length, get_or, arith, None, Some, inr}
+use Rattle.std.specs.Prelude.{Err, IfErr, Ok, Result}
+use Rattle.tor_source.specs.Answers.{Answers}
+use Rattle.tor_sums.specs.Given.{IsGivenNotMissing, IsGivenRead}
+use Rattle.tor_sums.specs.declared.errors.EngineError.{EngineError}
+use Rattle.tor_sums.specs.declared.errors.EngineError.TheVariants.{Changed, Missing, Read, Resources, StreamTooLong}
 
 -- each of a list by its index, and one more
 pub each_more : {A : Type 0} (P : ℕ → A → Type 0) (xs : List A) (x d : A)
@@ -10,3 +15,19 @@ each_more P [] x d each last (suc k) less = absurd (omega (arith, less))
 each_more P (y ∷ xs) x d each last zero less = each zero (omega arith)
 each_more P (y ∷ xs) x d each last (suc k) less =
     each_more (λ n. P (suc n)) xs x d (λ n there. each (suc n) (omega (arith, there))) last k (omega (arith, less))
+
+-- an error of which something holds by each of some choices
+pub err_all : {T E A : Type 0} (result : Result T E) (I : A → Type 0) (P : A → E → Type 0)
+    → ((a : A) → I a → IfErr result (P a)) → IfErr result (λ error. (a : A) → I a → P a error)
+err_all (Ok one) I P each = tt
+err_all (Err error) I P each = each
+
+-- what is given where bytes are read is given of files of these lengths
+pub not_missing : {F : Type 0} (answers : Answers F) (lengths : List ℕ) (error : EngineError F)
+    → IsGivenRead answers lengths error → IsGivenNotMissing answers lengths error
+not_missing answers lengths (Read file None fault) given = absurd given.0
+not_missing answers lengths (Read file (Some start) fault) given = (given.0.0, given.1)
+not_missing answers lengths (Changed file) given = (inr given.0, given.1)
+not_missing answers lengths (Missing file) given = absurd given.0
+not_missing answers lengths Resources given = tt
+not_missing answers lengths (StreamTooLong file) given = absurd given

@@ -28,6 +28,9 @@ pub mod SeatAnswers
 pub mod SharedContents
 pub mod SeenLengths
 pub mod Stopping
+pub mod TogetherFound
+pub mod TogetherPieces
+pub mod TogetherRanges
 pub mod Told
 pub mod ToldContents
 pub mod Unsummed

@@ -11,7 +11,7 @@ use Rattle.tor_plan.specs.declared.units.Part.{Part}
 use Rattle.tor_plan.specs.declared.units.PlanUnit.{PlanUnit}
 use Rattle.tor_source.specs.Source.{SourceFacts, bytes_from}
 use Rattle.tor_sums.specs.Contents.{contents_in}
-use Rattle.tor_engine.specs.Rows.{AreSameAt, IsRowOf, row_in, units_between}
+use Rattle.tor_engine.specs.Rows.{AreInFiles, AreSameAt, IsRowOf, row_in, units_between}
 use Rattle.tor_engine.specs.declared.lot.PieceRow.{PieceRow}
 use Rattle.tor_sums.specs.declared.unit_sums.UnitSums.{UnitSums}
 use Rattle.tor_sums.specs.steps.Hashes.{bytes_of_part}
@@ -38,6 +38,16 @@ between_inside plan is from to =
     parts_within plan (units_between from to plan.units) (recursion_from_All _ (units_between from to plan.units)
     (All-take (IsUnitOf plan) (to - from) (drop from plan.units)
     (All-drop (IsUnitOf plan) from plan.units (units_of_plan plan is))))
+
+-- so are those of all units of a plan
+pub units_in_files : (plan : PlanFacts) → IsPlan plan → AreInFiles plan.lengths plan.units
+units_in_files plan is = λ k d lt. (units_of_plan plan is k d lt).parts
+
+pub between_in_files : (plan : PlanFacts) → IsPlan plan → (from to : ℕ)
+    → AreInFiles plan.lengths (units_between from to plan.units)
+between_in_files plan is from to =
+    All-take (λ (unit : PlanUnit). All (IsInFile plan.lengths) unit.parts) (to - from) (drop from plan.units)
+    (All-drop (λ (unit : PlanUnit). All (IsInFile plan.lengths) unit.parts) from plan.units (units_in_files plan is))
 
 -- a source has all their bytes where it has those that files of the plan's lengths have there
 module _ {F : Type 0} (facts : SourceFacts F) (plan : PlanFacts) (contents : List (List ℕ))

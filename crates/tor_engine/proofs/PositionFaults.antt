@@ -29,7 +29,7 @@ first_mapped found f [] = refl
 first_mapped found f (x ∷ xs) = ap (λ a. option_or (found (f x)) a) (first_mapped found f xs)
 
 module _ {F : Type 0} (facts : SourceFacts F) where
-  found : ℕ × ℕ → Option (EngineError F)
+  pub found : ℕ × ℕ → Option (EngineError F)
   found position = byte_fault facts position.0 position.1
 
   in_run : (file start count : ℕ) → first_of found (positions file start count)
@@ -37,7 +37,7 @@ module _ {F : Type 0} (facts : SourceFacts F) where
   unfolding found
   in_run file start count = first_mapped found (λ offset. (file, offset)) (range_with_len start count)
 
-  in_unit : (unit : PlanUnit) → first_of found (positions_of_unit unit) ≡ unit_fault facts unit
+  pub in_unit : (unit : PlanUnit) → first_of found (positions_of_unit unit) ≡ unit_fault facts unit
   in_unit unit =
       first_flat found positions_of_part (part_fault facts) unit.parts
       (λ part. in_run part.file part.start part.length)

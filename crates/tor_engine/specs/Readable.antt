@@ -10,7 +10,7 @@ use Rattle.tor_source.specs.Source.{SourceFacts}
 use Rattle.tor_sums.specs.Contents.{contents_in}
 use Rattle.tor_sums.specs.Fault.{part_fault}
 use Rattle.tor_sums.specs.declared.errors.EngineError.{EngineError}
-use Rattle.tor_sums.specs.declared.errors.EngineError.TheVariants.{Read}
+use Rattle.tor_sums.specs.declared.errors.EngineError.TheVariants.{Changed, Missing, Read, Resources, StreamTooLong}
 use Rattle.tor_engine.specs.PieceFault.{asked_fault, lengths_told, piece_fault}
 use Rattle.tor_engine.specs.PieceHashes.{hash_if_there, pieces_of_plan}
 use Rattle.tor_engine.specs.There.{is_within}
@@ -71,6 +71,15 @@ IsSeenLength {F} answers file size =
 -- a fault as the error that it is
 abbrev pub error_of_fault : {F : Type 0} → ReadFault F → EngineError F
 error_of_fault fault = Read fault.file fault.start fault.fault
+
+-- an error that may end a work which keeps going. Memory or a thread was refused, or a file was changed; no fault of a
+-- read ends it (profile)
+abbrev pub IsNoReadFault : {F : Type 0} → EngineError F → Type 0
+IsNoReadFault (Read file start fault) = ⊥
+IsNoReadFault (Changed file) = Unit {0}
+IsNoReadFault (Missing file) = ⊥
+IsNoReadFault Resources = Unit {0}
+IsNoReadFault (StreamTooLong file) = ⊥
 
 -- a piece that has a hash is there
 abbrev pub HasHashWithin : List (Option ℕ) → PlanUnit → Option PieceHash → Type 0

@@ -1,9 +1,10 @@
 -- The hashes of the pieces of units, one after another: what some units of a plan come to, wherever they are hashed.
 use Rattle.std.specs.Prelude.{◌≡◌, ◌-◌, ◌≤◌, ℕ, true, false, List, [], ◌∷◌, drop, length, nat_le, take, if◌then◌else◌}
-use Rattle.std.specs.List.{AllByRecursion, flat_map}
+use Rattle.std.specs.List.{All, AllByRecursion, flat_map}
 use Rattle.tor_merkle.specs.Layer.{pieces_root, piece_roots}
 use Rattle.tor_plan.specs.Content.{unit_content}
 use Rattle.tor_plan.specs.PlanFacts.{PlanFacts}
+use Rattle.tor_plan.specs.WithinEntries.{IsInFile}
 use Rattle.tor_plan.specs.declared.units.PlanUnit.{PlanUnit}
 use Rattle.tor_source.specs.Source.{SourceFacts, bytes_from}
 use Rattle.tor_tree.specs.Kinds.{has_v1, has_v2}
@@ -63,3 +64,7 @@ abbrev pub AreSameAt : List (List ℕ) → List (List ℕ) → List PlanUnit →
 AreSameAt contents other units =
     AllByRecursion (λ part. bytes_of_part contents part ≡ bytes_of_part other part)
     (flat_map (λ unit. unit.parts) units)
+
+-- the parts of units are in files of these lengths. They say no more of a file of which no unit has a part (profile)
+abbrev pub AreInFiles : List ℕ → List PlanUnit → Type 0
+AreInFiles lengths units = All (λ unit. All (IsInFile lengths) unit.parts) units

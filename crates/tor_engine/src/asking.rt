@@ -6,7 +6,8 @@ ghost use Rattle.tor_source.specs.Source.{SourceFacts, told_length};
 ghost use Rattle.tor_sums.specs.Given.{HasTold, IsGivenPieces};
 ghost use Rattle.tor_sums.specs.declared.errors.EngineError.TheVariants.{Resources};
 ghost use Rattle.tor_engine.specs.PieceFault.{asked_fault};
-ghost use Rattle.tor_engine.specs.Readable.{IsSeenLength, error_of_fault, read_faults, seen, seen_lengths};
+ghost use Rattle.tor_engine.specs.Readable.{IsNoReadFault, IsSeenLength, error_of_fault, read_faults, seen};
+ghost use Rattle.tor_engine.specs.Readable.{seen_lengths};
 ghost use Rattle.tor_engine.specs.steps.Readable.{IsLeft, listed};
 
 use crate::read_fault::{ReadFault, add_fault};
@@ -74,6 +75,7 @@ pub(crate) fn expect_readable<S: Source>(
         told.now ≡ seen_lengths facts (length told.now) → IfErr result (λ error. error ≡ Resources) }
     ensures given { IfOk result (λ lost. AllByRecursion (λ fault.
         IsGivenPieces (S.answers source.now) (length told.now) (error_of_fault fault)) lost.items) }
+    ensures no_read_fault { IfErr result IsNoReadFault }
     ensures gave { IfErr result (λ error. (error ≡ Resources) ⊎ IsLeft (S.answers source.now) told.now error) }
 {
     let mut lost = Vec::new(alloc);
@@ -97,6 +99,7 @@ fn ask_again<S: Source>(
         (IsSome told → told_length facts file ≡ Ok told) → result ≡ Ok None }
     ensures given { (files : ℕ) → file < files → IfOk result (λ lost. AllByRecursion (λ fault.
         IsGivenPieces (S.answers source.now) files (error_of_fault fault)) (listed lost)) }
+    ensures no_read_fault { IfErr result IsNoReadFault }
     ensures gave { (sizes : List (Option ℕ)) → file < length sizes → slice_index_or sizes file None ≡ told →
         IfErr result (IsLeft (S.answers source.now) sizes) }
 {

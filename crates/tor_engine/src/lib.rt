@@ -14,8 +14,8 @@
 //! - [`work`] (`shares.rt`): one worker at a board, for callers with threads of their own.
 //! - [`hash_pieces`] (`pieces.rt`): what each piece hashes to ([`PieceHash`], `piece_hash.rt`), of files that may be
 //!   cut short or missing; [`find_pieces`] tells their lengths too, and [`find_pieces_between`] does so for some units.
-//!   `asked.rt` asks for the lengths, `present.rt` tells what is there by them, and `piece_work.rt` hashes the pieces of
-//!   a unit.
+//!   `asked.rt` asks for the lengths, `present.rt` tells what is there by them, and `piece_work.rt` hashes the pieces
+//!   of a unit, one after the other, or together if the unit is wholly there (`together.rt`).
 //! - [`find_readable`] (`readable.rt`): the same as far as the pieces can be read ([`ReadablePieces`]), and what could
 //!   not be ([`ReadFault`], `read_fault.rt`). `asking.rt` asks for the lengths, `seen.rt` is the source without the
 //!   files whose lengths fail, and `readable_work.rt` hashes a unit at once, and after a fault each of its pieces by
@@ -62,6 +62,7 @@ mod seen;
 mod shares;
 mod sum_work;
 mod taking;
+mod together;
 mod turn;
 mod unit_work;
 mod units;

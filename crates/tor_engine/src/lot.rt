@@ -6,7 +6,7 @@ ghost use Rattle.tor_sums.specs.Contents.{contents_in};
 ghost use Rattle.tor_sums.specs.Fault.{IsFault, units_fault};
 ghost use Rattle.tor_sums.specs.Given.{IsGivenRead};
 ghost use Rattle.tor_sums.specs.How.{IsHow};
-ghost use Rattle.tor_engine.specs.Rows.{AreSameAt, HasBytesAt, IsRowOf, row_in, units_between};
+ghost use Rattle.tor_engine.specs.Rows.{AreInFiles, AreSameAt, HasBytesAt, IsRowOf, row_in, units_between};
 ghost use Rattle.tor_sums.specs.UnitSums.{node_in};
 ghost use Rattle.tor_engine.specs.steps.RowSums.{IsRowOfSums};
 
@@ -58,6 +58,8 @@ pub fn hash_lot<S: Source, R: Threads + Sync>(
         × IsRowOf plan.now contents (units_between from to plan.now.units) row.hashes.items row.pieces.items) }
     ensures there { (facts : SourceFacts S.Fault) → S.is_steady source.now facts →
         OnOk result (HasBytesAt facts (units_between from to plan.now.units)) }
+    ensures of_lot { (lengths : List ℕ) → AreInFiles lengths (units_between from to plan.now.units) →
+        IfErr result (IsGivenRead (S.answers source.now) lengths) }
     ensures gave { IfErr result (IsGivenRead (S.answers source.now) plan.now.lengths) }
 {
     units_are_few();

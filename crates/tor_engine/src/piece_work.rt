@@ -2,6 +2,7 @@
 ghost use Rattle.std.specs.Prelude.{◌≡◌, ◌↔◌, ◌++◌, [], ℕ, IsTrue, List, None, IfErr, IfOk, MatchResult, length, map};
 ghost use Rattle.std.specs.Prelude.{true};
 ghost use Rattle.std.specs.Prelude.{replicate};
+ghost use Rattle.tor_plan.specs.Pieces.{pieces_of_unit};
 ghost use Rattle.tor_plan.specs.PlanFacts.{IsPlan};
 ghost use Rattle.tor_source.specs.Source.{SourceFacts};
 ghost use Rattle.tor_sums.specs.Contents.{contents_in};
@@ -17,6 +18,7 @@ ghost use Rattle.tor_engine.specs.steps.Unsummed.{FindsPiece, OwePieces, owed_to
 
 use crate::piece_hash::{FoundPiece, PieceHash, piece_of_tree};
 use crate::present::is_there;
+use crate::together::{find_together, is_together};
 use crate::unit_work::UnitWork;
 use std::alloc::{AllocError, Global};
 use tor_merkle::Hash;
@@ -104,26 +106,13 @@ impl<'a, S: FileBytes> UnitWork for PieceWork<'a, S> {
         unit: &PlanUnit,
         worker: &mut OwingSums,
     ) -> Result<UnitPieces, EngineError<S::Fault>> {
-        let pieces = unit.pieces(self.alloc, self.plan.piece_length())?;
-        let mut found = Vec::with_capacity(self.alloc, pieces.len())?;
-        'pieces: for piece in pieces.as_slice() {
-            let one = match find_piece(
-                self.alloc,
-                self.source,
-                self.plan,
-                self.known,
-                piece,
-                worker,
-            ) {
-                Ok(one) => one,
-                Err(error) => return Err(error),
-            };
-            found.push(one)?;
+        match find_pieces_of(self.alloc, self.source, self.plan, self.known, unit, worker) {
+            Ok(pieces) => Ok(UnitPieces {
+                unit: number,
+                pieces,
+            }),
+            Err(error) => Err(error),
         }
-        Ok(UnitPieces {
-            unit: number,
-            pieces: found,
-        })
     }
 
     fn complete(&self, worker: OwingSums, sums: &mut Vec<UnitPieces>) {
@@ -139,6 +128,72 @@ impl<'a, S: FileBytes> UnitWork for PieceWork<'a, S> {
     fn hash_of(&self, _sums: &UnitPieces) -> Hash {
         [0; 32]
     }
+}
+
+/// What is found of the pieces of a unit: all together, if they can be hashed so, and else one after the other.
+fn find_pieces_of<S: FileBytes>(
+    alloc: Global,
+    source: &S,
+    plan: &Plan,
+    known: &Known,
+    unit: &PlanUnit,
+    worker: &mut OwingSums,
+) -> Result<Vec<FoundPiece>, EngineError<S::Fault>>
+    requires planned { IsPlan plan.now }
+    requires padding { IsPaddingSum plan.now known.now.padding_sum }
+    requires unit { IsUnitToHash plan.now unit.now }
+    requires owing { (owed : List ℕ) × Owes plan.now owed worker.old }
+    ensures owing { (owed : List ℕ) → Owes plan.now owed worker.old → IfOk result (λ found. (own : List ℕ)
+        × OweEach (FindsPiece (S.is_steady source.now) plan.now known.now.lengths.items)
+        (pieces_of_unit plan.now.piece_length unit.now) found.items own
+        × Owes plan.now (owed ++ own) worker.new) }
+    ensures fault { (facts : SourceFacts S.Fault) → S.is_steady source.now facts →
+        AreTold known.now.lengths.items (contents_in facts (length plan.now.lengths)) →
+        MatchResult result
+        (λ _. unit_pieces_fault facts plan.now (contents_in facts (length plan.now.lengths)) unit.now ≡ None)
+        (IsFault (unit_pieces_fault facts plan.now (contents_in facts (length plan.now.lengths)) unit.now)) }
+    ensures gave { IfErr result (IsGivenRead (S.answers source.now) (lengths_of_sizes known.now.lengths.items)) }
+{
+    if is_together(plan, known, unit) {
+        return find_together(alloc, source, plan, known, unit, worker);
+    }
+    find_in_turn(alloc, source, plan, known, unit, worker)
+}
+
+/// What is found of the pieces of a unit, one after the other.
+fn find_in_turn<S: FileBytes>(
+    alloc: Global,
+    source: &S,
+    plan: &Plan,
+    known: &Known,
+    unit: &PlanUnit,
+    worker: &mut OwingSums,
+) -> Result<Vec<FoundPiece>, EngineError<S::Fault>>
+    requires planned { IsPlan plan.now }
+    requires padding { IsPaddingSum plan.now known.now.padding_sum }
+    requires unit { IsUnitToHash plan.now unit.now }
+    requires owing { (owed : List ℕ) × Owes plan.now owed worker.old }
+    ensures owing { (owed : List ℕ) → Owes plan.now owed worker.old → IfOk result (λ found. (own : List ℕ)
+        × OweEach (FindsPiece (S.is_steady source.now) plan.now known.now.lengths.items)
+        (pieces_of_unit plan.now.piece_length unit.now) found.items own
+        × Owes plan.now (owed ++ own) worker.new) }
+    ensures fault { (facts : SourceFacts S.Fault) → S.is_steady source.now facts →
+        AreTold known.now.lengths.items (contents_in facts (length plan.now.lengths)) →
+        MatchResult result
+        (λ _. unit_pieces_fault facts plan.now (contents_in facts (length plan.now.lengths)) unit.now ≡ None)
+        (IsFault (unit_pieces_fault facts plan.now (contents_in facts (length plan.now.lengths)) unit.now)) }
+    ensures gave { IfErr result (IsGivenRead (S.answers source.now) (lengths_of_sizes known.now.lengths.items)) }
+{
+    let pieces = unit.pieces(alloc, plan.piece_length())?;
+    let mut found = Vec::with_capacity(alloc, pieces.len())?;
+    'pieces: for piece in pieces.as_slice() {
+        let one = match find_piece(alloc, source, plan, known, piece, worker) {
+            Ok(one) => one,
+            Err(error) => return Err(error),
+        };
+        found.push(one)?;
+    }
+    Ok(found)
 }
 
 /// What is found of a piece. One of which a byte is not there is not read.

@@ -10,7 +10,7 @@ ghost use Rattle.tor_sums.specs.declared.errors.EngineError.TheVariants.{Resourc
 ghost use Rattle.tor_sums.specs.steps.Given.{IsGivenRead};
 ghost use Rattle.tor_sums.specs.steps.ReadBytes.{IsFaultFree};
 ghost use Rattle.tor_sums.specs.steps.Reads.{HasPart, HasParts};
-ghost use Rattle.tor_engine.specs.Readable.{error_of_fault, read_faults};
+ghost use Rattle.tor_engine.specs.Readable.{IsNoReadFault, error_of_fault, read_faults};
 ghost use Rattle.tor_engine.specs.steps.Readable.{listed};
 
 use crate::read_fault::{ReadFault, add_fault, one_fault};
@@ -41,6 +41,7 @@ pub(crate) fn faults_of<S: FileBytes>(
         IsGivenRead (S.answers source.now) lengths (error_of_fault first) →
         IfOk result (λ faults.
         AllByRecursion (λ fault. IsGivenRead (S.answers source.now) lengths (error_of_fault fault)) faults.items) }
+    ensures no_read_fault { IfErr result IsNoReadFault }
     ensures gave { (lengths : List ℕ) → All (IsInFile lengths) piece.now.parts →
         IfErr result (IsGivenRead (S.answers source.now) lengths) }
 {
@@ -74,6 +75,7 @@ fn probe_parts<S: FileBytes>(
     ensures given { (lengths : List ℕ) → All (IsInFile lengths) parts.now →
         IfOk result (λ faults.
         AllByRecursion (λ fault. IsGivenRead (S.answers source.now) lengths (error_of_fault fault)) faults.items) }
+    ensures no_read_fault { IfErr result IsNoReadFault }
     ensures gave { (lengths : List ℕ) → All (IsInFile lengths) parts.now →
         IfErr result (IsGivenRead (S.answers source.now) lengths) }
 {
@@ -106,6 +108,7 @@ fn probe_part<S: FileBytes>(
     ensures given { (lengths : List ℕ) → IsInFile lengths part.now →
         IfOk result (λ found.
         AllByRecursion (λ fault. IsGivenRead (S.answers source.now) lengths (error_of_fault fault)) (listed found)) }
+    ensures no_read_fault { IfErr result IsNoReadFault }
     ensures gave { (lengths : List ℕ) → IsInFile lengths part.now →
         IfErr result (IsGivenRead (S.answers source.now) lengths) }
 {

@@ -7,7 +7,8 @@ ghost use Rattle.tor_sums.specs.How.{IsHow};
 ghost use Rattle.tor_sums.specs.declared.errors.EngineError.TheVariants.{Resources};
 ghost use Rattle.tor_sums.specs.steps.Each.{SumUpEach};
 ghost use Rattle.tor_engine.specs.PieceHashes.{pieces_of_plan};
-ghost use Rattle.tor_engine.specs.Readable.{HasHashWithin, IsSeenLength, all_read_faults, error_of_fault};
+ghost use Rattle.tor_engine.specs.Readable.{HasHashWithin, IsNoReadFault, IsSeenLength, all_read_faults};
+ghost use Rattle.tor_engine.specs.Readable.{error_of_fault};
 ghost use Rattle.tor_engine.specs.Readable.{readable_hashes, seen_lengths};
 ghost use Rattle.tor_engine.specs.There.{HasHashesWithin};
 ghost use Rattle.tor_engine.specs.steps.Pieces.{IsPaddingSum};
@@ -71,6 +72,7 @@ pub fn find_readable<S: Source, R: Threads + Sync>(
         × (length found.lengths.items ≡ length plan.now.lengths)) }
     ensures given { IfOk result (λ found. AllByRecursion (λ fault.
         IsGivenPieces (S.answers source.now) (length plan.now.lengths) (error_of_fault fault)) found.faults.items) }
+    ensures no_read_fault { IfErr result IsNoReadFault }
     ensures gave { IfErr result (IsGivenPieces (S.answers source.now) (length plan.now.lengths)) }
 {
     let (lengths, mut faults) = ask_readable(alloc, source, plan.lengths().len())?;
@@ -114,6 +116,7 @@ fn hash_readable<S: Source, R: Threads + Sync>(
     ensures refused { (facts : SourceFacts S.Fault) → S.is_steady source.now facts →
         known.now.lengths.items ≡ seen_lengths facts (length plan.now.lengths) →
         IfErr result (λ error. error ≡ Resources) }
+    ensures no_read_fault { IfErr result IsNoReadFault }
     ensures gave { IfErr result (seen_may_be known.now.lengths.items (S.answers source.now)) }
 {
     let seen = Seen {

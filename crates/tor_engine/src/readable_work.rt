@@ -8,6 +8,7 @@ ghost use Rattle.tor_sums.specs.declared.errors.EngineError.TheVariants.{Resourc
 ghost use Rattle.tor_sums.specs.steps.Each.{SumUpEach};
 ghost use Rattle.tor_sums.specs.steps.Given.{IsGivenRead, lengths_of_sizes};
 ghost use Rattle.tor_sums.specs.steps.Owing.{Owes};
+ghost use Rattle.tor_engine.specs.Readable.{IsNoReadFault};
 ghost use Rattle.tor_engine.specs.steps.Pieces.{AreTold, IsPaddingSum, IsPiece, IsUnitToHash, hashes_in};
 ghost use Rattle.tor_engine.specs.steps.Readable.{FindsReadable, FindsUnit};
 
@@ -66,9 +67,10 @@ impl<'a, S: FileBytes> UnitWork for ReadableWork<'a, S> {
 
     ghost hash_in = { λ _ _. replicate 32 0 };
 
-    ghost gave = { λ work. IsGivenRead (S.answers work.source.now) (lengths_of_sizes work.known.now.lengths.items) };
+    ghost gave = { λ work error. IsNoReadFault error
+        × IsGivenRead (S.answers work.source.now) (lengths_of_sizes work.known.now.lengths.items) error };
 
-    ghost may_refuse = { λ _. tt };
+    ghost may_refuse = { λ _. (tt, tt) };
 
     fn alloc(&self) -> Global {
         self.alloc
@@ -150,6 +152,7 @@ fn find_each<S: FileBytes>(
     ensures refused { (facts : SourceFacts S.Fault) → S.is_steady source.now facts →
         AreTold known.now.lengths.items (contents_in facts (length plan.now.lengths)) →
         IfErr result (λ error. error ≡ Resources) }
+    ensures no_read_fault { IfErr result IsNoReadFault }
     ensures gave { IfErr result (IsGivenRead (S.answers source.now) (lengths_of_sizes known.now.lengths.items)) }
 {
     let pieces = unit.pieces(alloc, plan.piece_length())?;
@@ -193,6 +196,7 @@ fn find_or_faults<S: FileBytes>(
     ensures refused { (facts : SourceFacts S.Fault) → S.is_steady source.now facts →
         AreTold known.now.lengths.items (contents_in facts (length plan.now.lengths)) →
         IfErr result (λ error. error ≡ Resources) }
+    ensures no_read_fault { IfErr result IsNoReadFault }
     ensures gave { IfErr result (IsGivenRead (S.answers source.now) (lengths_of_sizes known.now.lengths.items)) }
 {
     let error = match find_alone(alloc, source, plan, known, piece, worker) {

@@ -7,6 +7,7 @@ ghost use Rattle.tor_sums.specs.steps.Reads.{HasParts};
 ghost use Rattle.tor_sums.specs.steps.Each.{OweEach};
 ghost use Rattle.tor_sums.specs.steps.Owing.{Owes};
 ghost use Rattle.tor_sums.specs.steps.Run.{IsUnitToSum, OwesUnit, SumsUpUnit, parts_of};
+ghost use Rattle.tor_engine.specs.Rows.{AreInFiles};
 
 use crate::unit_work::UnitWork;
 use std::alloc::{AllocError, Global};
@@ -45,9 +46,11 @@ impl<'a, S: FileBytes> UnitWork for SumWork<'a, S> {
 
     ghost hash_in = { λ _ sums. sums.hash };
 
-    ghost gave = { λ work. IsGivenRead (S.answers work.source.now) work.plan.now.lengths };
+    // Whatever lengths the files have, as long as these units are in them.
+    ghost gave = { λ work error. (lengths : List ℕ) → AreInFiles lengths work.units.now →
+        IsGivenRead (S.answers work.source.now) lengths error };
 
-    ghost may_refuse = { λ _. tt };
+    ghost may_refuse = { λ _ _ _. tt };
 
     fn alloc(&self) -> Global {
         self.alloc

@@ -5,7 +5,7 @@ ghost use Rattle.tor_sums.specs.Contents.{contents_in};
 ghost use Rattle.tor_sums.specs.Fault.{IsFault, units_fault};
 ghost use Rattle.tor_sums.specs.Given.{IsGivenRead};
 ghost use Rattle.tor_sums.specs.How.{IsHow};
-ghost use Rattle.tor_engine.specs.Rows.{AreSameAt, HasBytesAt, IsRowOf};
+ghost use Rattle.tor_engine.specs.Rows.{AreInFiles, AreSameAt, HasBytesAt, IsRowOf};
 ghost use Rattle.tor_parts.specs.Dealing.{dealt};
 
 use crate::dealing::deal;
@@ -38,6 +38,8 @@ pub fn hash_dealt<S: Source, R: Threads + Sync>(
         × IsRowOf plan.now contents (dealt lots lot plan.now.units) row.hashes.items row.pieces.items) }
     ensures there { (facts : SourceFacts S.Fault) → S.is_steady source.now facts →
         OnOk result (HasBytesAt facts (dealt lots lot plan.now.units)) }
+    ensures of_lot { (lengths : List ℕ) → AreInFiles lengths (dealt lots lot plan.now.units) →
+        IfErr result (IsGivenRead (S.answers source.now) lengths) }
     ensures gave { IfErr result (IsGivenRead (S.answers source.now) plan.now.lengths) }
 {
     let (from, to) = deal(plan, lots, lot);

@@ -1,18 +1,23 @@
 -- What a lot has of a torrent, and what is found of it, by the plan of its pieces.
-use Rattle.tor_recheck.proofs.Names.{◌≡◌, ℕ, ◌+◌, ◌-◌, ◌*◌, ◌≤◌, Bool, List, [], ◌++◌, length, map, take, drop}
+use Rattle.tor_recheck.proofs.Names.{◌≡◌, ℕ, ◌+◌, ◌-◌, ◌*◌, ◌<◌, ◌≤◌, Bool, true, false, List, [], ◌++◌, length, map}
+use Rattle.tor_recheck.proofs.Names.{take, drop}
+use Rattle.tor_recheck.proofs.Names.{get_or, get_or-map-range_with_len, zero-add}
 use Rattle.tor_recheck.proofs.Names.{Option, None, min, arith, refl, sym, ap, ap₂, ◌∙◌, inl, inr, replicate}
 use Rattle.tor_recheck.proofs.Names.{length-append, length-map, length-map-range_with_len, length-replicate, list_any}
 use Rattle.tor_recheck.proofs.Names.{range_with_len, contents_in, div_ceil, hash_if_there, is_within, HaveHashesOf}
-use Rattle.tor_recheck.proofs.Names.{PieceHash, PlanFacts, plan_of_entries, IsCut, entries_to_cut, pieces_of, all_judged}
-use Rattle.tor_recheck.proofs.Names.{has_bytes_of, verified_pieces, is_verified, View, SourceFacts, option_map, option_or}
-use Rattle.tor_recheck.proofs.Names.{PlanUnit, filter, length-drop, length-take, asked_fault, first_of, of_engine_error, first_asked_fault, pieces_fault, IsFault, EngineError, is_some}
+use Rattle.tor_recheck.proofs.Names.{PieceHash, PlanFacts, plan_of_entries, IsCut, entries_to_cut, pieces_of}
+use Rattle.tor_recheck.proofs.Names.{all_judged}
+use Rattle.tor_recheck.proofs.Names.{has_bytes_of, verified_pieces, is_verified, View, SourceFacts, option_map}
+use Rattle.tor_recheck.proofs.Names.{option_or}
+use Rattle.tor_recheck.proofs.Names.{PlanUnit, filter, length-drop, length-take, asked_fault, first_of, of_engine_error}
+use Rattle.tor_recheck.proofs.Names.{first_asked_fault, pieces_fault, IsFault, EngineError, is_some}
 use Rattle.tor_recheck.proofs.DealtLots.{lots_rise}
 use Rattle.tor_recheck.proofs.LotFound.{bits_of_lot, faults_same, hashes_same, units_counted}
 use Rattle.tor_recheck.proofs.LotPieces.{own_pieces}
 use Rattle.tor_recheck.proofs.ProvedLaws.{pieces_are_counted}
 use Rattle.tor_recheck.proofs.Rechecked.{count_is, count_of_judged}
-use Rattle.tor_recheck.specs.Lots.{first_lot_fault, first_of_lot, in_lot, lot_byte}
-use Rattle.tor_recheck.specs.steps.Lots.{own_facts}
+use Rattle.tor_recheck.specs.Lots.{IsFileOfLot, first_lot_fault, first_of_lot, in_lot, lot_byte}
+use Rattle.tor_recheck.specs.steps.Lots.{is_own, own_facts}
 use Rattle.tor_engine.specs.PieceFault.{units_piece_fault}
 use Rattle.tor_engine.specs.PieceHashes.{hashes_of_units, pieces_of_units}
 use Rattle.tor_engine.specs.Rows.{units_between}
@@ -85,7 +90,7 @@ module _ (view : View) (cut : IsCut view) (plan : PlanFacts)
       ∙ ap₂ (λ a b. a - b) (to_is ∙ ap (λ n. first_of_lot n lots (lot + 1)) (pieces_are_counted view cut))
       (from_is ∙ ap (λ n. first_of_lot n lots lot) (pieces_are_counted view cut))
 
-  module _ {F : Type 0} (facts : SourceFacts F) (own : List Bool)
+  module _ (own : List Bool)
       (own_is : own ≡ map (λ file. list_any (has_bytes_of file) (take (to - from) (drop from plan.units)))
       (range_with_len 0 (length plan.lengths))) where
     own_files : own ≡ map (λ file. list_any (has_bytes_of file) own_units) (range_with_len 0 (length view.files))
@@ -95,6 +100,18 @@ module _ (view : View) (cut : IsCut view) (plan : PlanFacts)
         (range_with_len 0 (length p.lengths))) planned
         ∙ ap (λ n. map (λ file. list_any (has_bytes_of file) own_units) (range_with_len 0 n)) (count_is view [] cut)
 
+    -- a file that is asked has bytes in the lot
+    pub named_in_lot : (file : ℕ) → file < length view.files → is_own own file ≡ true → IsFileOfLot view lots lot file
+    named_in_lot file less is =
+        ap (list_any (has_bytes_of file)) (sym (in_lot_is (pieces_of view) lots lot m from to refl from_is to_is))
+        ∙ sym (ap (λ (files : List Bool). get_or files file false) own_files
+        ∙ get_or-map-range_with_len (λ file. list_any (has_bytes_of file) own_units) 0 (length view.files) file file
+        false less (zero-add file))
+        ∙ is
+
+  module _ {F : Type 0} (facts : SourceFacts F) (own : List Bool)
+      (own_is : own ≡ map (λ file. list_any (has_bytes_of file) (take (to - from) (drop from plan.units)))
+      (range_with_len 0 (length plan.lengths))) where
     pub bits_found : (full hashes : List (Option PieceHash)) → full ≡ replicate from None ++ hashes
         → hashes ≡ hashes_of_units plan (contents_in (own_facts own facts) (length plan.lengths))
         (units_between from to plan.units)
@@ -119,7 +136,7 @@ module _ (view : View) (cut : IsCut view) (plan : PlanFacts)
             ∙ ap (λ n. hashes_of_units alone (contents_in (own_facts own facts) n) own_units) (count_is view [] cut)
             ∙ ap (map (hash_if_there alone (contents_in (own_facts own facts) (length view.files))))
             (own_pieces view cut from (to - from))
-            ∙ hashes_same view cut from (to - from) within facts own own_files
+            ∙ hashes_same view cut from (to - from) within facts own (own_files own own_is)
 
     pub fault_is : option_map of_engine_error (units_piece_fault (own_facts own facts) plan
         (units_between from to plan.units))
@@ -130,7 +147,7 @@ module _ (view : View) (cut : IsCut view) (plan : PlanFacts)
         ∙ ap₂ (λ n units. option_map of_engine_error (option_or (first_asked_fault (own_facts own facts) n)
         (pieces_fault (own_facts own facts) (contents_in (own_facts own facts) n) units))) (count_is view [] cut)
         (own_pieces view cut from (to - from))
-        ∙ ap (option_map of_engine_error) (faults_same view cut from (to - from) within facts own own_files)
+        ∙ ap (option_map of_engine_error) (faults_same view cut from (to - from) within facts own (own_files own own_is))
         ∙ ap (λ units. option_map of_engine_error (option_or (first_of (asked_fault facts)
         (filter (λ file. list_any (has_bytes_of file) units) (range_with_len 0 (length view.files))))
         (pieces_fault facts (contents_in facts (length view.files)) units)))

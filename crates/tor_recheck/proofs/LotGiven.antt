@@ -1,7 +1,8 @@
 -- What a source of some files alone answered, its source gave or told.
-use Rattle.tor_recheck.proofs.Names.{◌≡◌, ℕ, Bool, true, false, List, Option, arith, sym, ap, ◌∙◌}
+use Rattle.tor_recheck.proofs.Names.{◌≡◌, ◌<◌, ℕ, Bool, true, false, List, Option, arith, sym, ap, ◌∙◌}
 use Rattle.tor_recheck.proofs.Names.{inl, inr, cases_Bool, unwrap_or, IsGivenPieces, EngineError, Answers}
-use Rattle.tor_recheck.proofs.Names.{Read, Changed, Missing, Resources, StreamTooLong}
+use Rattle.tor_recheck.proofs.Names.{Read, Changed, Missing, Resources, StreamTooLong, View, of_engine_error}
+use Rattle.tor_recheck.specs.Lots.{IsFileOfLot, IsOfLot}
 use Rattle.tor_recheck.specs.steps.Lots.{is_own, own_answers}
 use Rattle.tor_sums.specs.Given.{Departs}
 
@@ -33,3 +34,15 @@ module _ {F : Type 0} (own : List Bool) (answers : Answers F) where
   given_own count (Missing file) given = absurd given.0
   given_own count Resources given = given
   given_own count (StreamTooLong file) given = absurd given
+
+  -- what it names is its own
+  pub of_own : (view : View) (lots lot count : ℕ)
+      → ((file : ℕ) → file < count → is_own own file ≡ true → IsFileOfLot view lots lot file)
+      → (error : EngineError F) → IsGivenPieces (own_answers own answers) count error
+      → IsOfLot view lots lot (of_engine_error error)
+  of_own view lots lot count are (Read file start fault) given = are file given.1 given.0.0
+  of_own view lots lot count are (Changed file) given =
+      are file given.1 (departed file given.0.0 given.0.1 given.0.2)
+  of_own view lots lot count are (Missing file) given = absurd given.0
+  of_own view lots lot count are Resources given = tt
+  of_own view lots lot count are (StreamTooLong file) given = absurd given

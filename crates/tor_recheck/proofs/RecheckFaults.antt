@@ -4,6 +4,8 @@ use Rattle.tor_recheck.proofs.Names.{contents_in, IsGivenPieces, first_asked_fau
 use Rattle.tor_recheck.proofs.Names.{EngineError, Read, Changed, Missing, Resources, StreamTooLong, PlanFacts}
 use Rattle.tor_recheck.proofs.Names.{plan_of_entries, IsCut, entries_to_cut, IsFault, IsGiven, first_fault}
 use Rattle.tor_recheck.proofs.Names.{of_engine_error, Answers, SourceFacts, View}
+use Rattle.tor_engine.specs.Readable as readable
+use Rattle.tor_recheck.specs.Readable.{IsNoReadFault}
 use Rattle.tor_recheck.proofs.Rechecked.{count_is, pieces_are}
 use Rattle.tor_sums.specs.Fault as engine
 
@@ -36,3 +38,12 @@ module _ {F : Type 0} (answers : Answers F) (count : ℕ) where
   given_of (Missing file) given = absurd given.0
   given_of Resources given = given
   given_of (StreamTooLong file) given = absurd given
+
+-- no fault of a read is named as one
+pub no_read_of : {F : Type 0} (error : EngineError F) → readable.IsNoReadFault error
+    → IsNoReadFault (of_engine_error error)
+no_read_of (Read file start fault) is = is
+no_read_of (Changed file) is = is
+no_read_of (Missing file) is = tt
+no_read_of Resources is = is
+no_read_of (StreamTooLong file) is = tt

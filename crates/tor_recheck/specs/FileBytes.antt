@@ -22,6 +22,11 @@ pieced_files view = map (λ span. record { piece_length = view.piece_length; spa
 abbrev pub piece_of_byte : PiecedFile → ℕ → ℕ
 piece_of_byte file b = file.span.first + (file.span.lead + b) / file.piece_length
 
+-- one of the pieces from one on, and before another, has bytes of a file
+abbrev pub has_piece_between : ℕ → ℕ → PiecedFile → Bool
+has_piece_between from to file = nat_lt from file.span.after && nat_lt file.span.first to
+    && nat_lt file.span.first file.span.after
+
 -- byte b is one of the file, and lies in a piece whose bit is not set. A piece without a bit has none that is (profile)
 abbrev pub is_bad_byte : PiecedFile → List Bool → ℕ → Bool
 is_bad_byte file bits b = nat_lt b file.span.length && not (slice_index_or bits (piece_of_byte file b) false)

@@ -1,5 +1,6 @@
 -- The pieces of a torrent dealt to many machines: each has its own run of the bytes of the bitfield.
-use Rattle.std.specs.Prelude.{ℕ, ◌+◌, ◌-◌, ◌*◌, ◌/◌, ◌%◌, min, List, drop, filter, length, take, Option, option_map}
+use Rattle.std.specs.Prelude.{◌≡◌, ℕ, ◌+◌, ◌-◌, ◌*◌, ◌/◌, ◌%◌, min, true, List, drop, filter, length, take, Option}
+use Rattle.std.specs.Prelude.{option_map}
 use Rattle.std.specs.Int.{div_ceil}
 use Rattle.std.specs.List.{list_any, range_with_len}
 use Rattle.std.specs.Option.{option_or}
@@ -8,6 +9,7 @@ use Rattle.tor_recheck.specs.Files.{has_bytes_of}
 use Rattle.tor_recheck.specs.Pieces.{pieces_of}
 use Rattle.tor_recheck.specs.Recheck.{of_engine_error}
 use Rattle.tor_recheck.specs.declared.errors.RecheckError.{RecheckError}
+use Rattle.tor_recheck.specs.declared.errors.RecheckError.TheVariants.{Changed, Read, Resources, Workers}
 use Rattle.tor_source.specs.Source.{SourceFacts}
 use Rattle.tor_spec.specs.valid.View.{View}
 use Rattle.tor_sums.specs.Contents.{contents_in}
@@ -41,3 +43,17 @@ abbrev pub first_lot_fault : {F : Type 0} → SourceFacts F → View → ℕ →
 first_lot_fault facts view lots lot =
     option_map of_engine_error (option_or (first_of (asked_fault facts) (files_of_lot view lots lot))
     (pieces_fault facts (contents_in facts (length view.files)) (in_lot lots lot (pieces_of view))))
+
+-- ---- of any source
+
+-- the file has bytes in the pieces of a lot
+abbrev pub IsFileOfLot : View → ℕ → ℕ → ℕ → Type 0
+IsFileOfLot view lots lot file = list_any (has_bytes_of file) (in_lot lots lot (pieces_of view)) ≡ true
+
+-- an error names no file but of the lot. A fault is of a file that has bytes in its pieces, be it of the length or of a
+-- byte, and so is a change (profile)
+abbrev pub IsOfLot : {F : Type 0} → View → ℕ → ℕ → RecheckError F → Type 0
+IsOfLot view lots lot (Read file start fault) = IsFileOfLot view lots lot file
+IsOfLot view lots lot (Changed file) = IsFileOfLot view lots lot file
+IsOfLot view lots lot Resources = Unit {0}
+IsOfLot view lots lot Workers = Unit {0}

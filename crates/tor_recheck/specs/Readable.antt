@@ -9,6 +9,8 @@ use Rattle.tor_plan.specs.Entries.{empty_unit}
 use Rattle.tor_recheck.specs.Files.{held_pieces}
 use Rattle.tor_recheck.specs.Pieces.{pieces_of}
 use Rattle.tor_recheck.specs.Recheck.{IsGiven, of_engine_error}
+use Rattle.tor_recheck.specs.declared.errors.RecheckError.{RecheckError}
+use Rattle.tor_recheck.specs.declared.errors.RecheckError.TheVariants.{Changed, Read, Resources, Workers}
 use Rattle.tor_source.specs.Answers.{Answers}
 use Rattle.tor_source.specs.Source.{SourceFacts}
 use Rattle.tor_spec.specs.Verified.{verified_pieces}
@@ -55,3 +57,11 @@ first_of_files faults count = map (first_of_file faults) (range_with_len 0 count
 -- the source gave it, for this file
 abbrev pub IsGivenFault : {F : Type 0} → Answers F → ℕ → ReadFault F → Type 0
 IsGivenFault answers count fault = IsGiven answers count (of_engine_error (error_of_fault fault))
+
+-- an error that may end a recheck which keeps going. Workers were wrong, memory or a thread was refused, or a file was
+-- changed; no fault of a read ends it (profile)
+abbrev pub IsNoReadFault : {F : Type 0} → RecheckError F → Type 0
+IsNoReadFault (Read file start fault) = ⊥
+IsNoReadFault (Changed file) = Unit {0}
+IsNoReadFault Resources = Unit {0}
+IsNoReadFault Workers = Unit {0}

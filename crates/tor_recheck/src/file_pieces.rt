@@ -1,6 +1,6 @@
 //! Which pieces have bytes of each file, and which bytes of a file are in pieces whose bits are not set.
 ghost use Rattle.std.specs.Prelude.{◌≡◌, ◌-◌, false, IfOk, OnOk, length, slice_index_or};
-ghost use Rattle.tor_recheck.specs.FileBytes.{AreBadRanges, pieced_files};
+ghost use Rattle.tor_recheck.specs.FileBytes.{AreBadRanges, has_piece_between, pieced_files};
 ghost use Rattle.tor_recheck.specs.steps.FileBytes.{IsSpanOf, with_range};
 
 use crate::bits::Bits;
@@ -73,6 +73,13 @@ impl FilePieces {
         ensures { result ≡ self.now.span.after - self.now.span.first }
     {
         self.span.after.saturating_sub(self.span.first)
+    }
+
+    /// Whether one of the pieces from one on, and before another, has bytes of it.
+    pub fn has_piece_between(&self, from: u64, to: u64) -> bool
+        ensures { result ≡ has_piece_between from to self.now }
+    {
+        from < self.span.after && self.span.first < to && self.span.first < self.span.after
     }
 
     /// Its bytes that are in pieces whose bits are not set, as ranges that rise and do not touch. It takes time as the

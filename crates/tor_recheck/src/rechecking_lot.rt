@@ -1,7 +1,8 @@
 //! A torrent's pieces looked for by many machines: each looks for those of its own lot.
-ghost use Rattle.std.specs.Prelude.{◌≡◌, ◌≢◌, ◌+◌, ◌-◌, ◌<◌, ◌≤◌, ◌^◌, ◌++◌, Err, IfErr, IfOk, MatchResult, None, drop, length};
+ghost use Rattle.std.specs.Prelude.{◌≡◌, ◌≢◌, ◌+◌, ◌-◌, ◌<◌, ◌≤◌, ◌^◌, ◌++◌, Err, IfErr, IfOk, MatchResult, None, drop};
+ghost use Rattle.std.specs.Prelude.{length};
 ghost use Rattle.std.specs.Prelude.{replicate, take};
-ghost use Rattle.tor_recheck.specs.Lots.{first_lot_fault, first_of_lot, in_lot, lot_byte};
+ghost use Rattle.tor_recheck.specs.Lots.{IsOfLot, first_lot_fault, first_of_lot, in_lot, lot_byte};
 ghost use Rattle.tor_recheck.specs.Recheck.{IsFault, IsGiven};
 ghost use Rattle.tor_recheck.specs.declared.errors.RecheckError.TheVariants.{Workers};
 ghost use Rattle.tor_source.specs.Source.{SourceFacts};
@@ -45,6 +46,7 @@ pub fn recheck_lot<S: Source, R: Threads + Sync>(
     ensures counted { IfOk result (λ bits. length bits
         ≡ first_of_lot torrent.now.piece_count lots (lot + 1) - first_of_lot torrent.now.piece_count lots lot) }
     ensures allowed { IsHow how → IfErr result (λ error. error ≢ Workers) }
+    ensures of_lot { IfErr result (IsOfLot torrent.now lots lot) }
     ensures gave { IfErr result (IsGiven (S.answers source.now) (length torrent.now.files)) }
 {
     if !how.is_allowed() {

@@ -9,7 +9,8 @@ ghost use Rattle.tor_engine.specs.There.{HaveHashesOf};
 ghost use Rattle.tor_recheck.specs.Files.{files_found};
 ghost use Rattle.tor_recheck.specs.Findings.{AreFoundWithin};
 ghost use Rattle.tor_recheck.specs.Pieces.{IsCut, pieces_of};
-ghost use Rattle.tor_recheck.specs.Readable.{IsGivenFault, contents_seen, faults_seen, readable_held, readable_pieces};
+ghost use Rattle.tor_recheck.specs.Readable.{IsGivenFault, IsNoReadFault, contents_seen, faults_seen, readable_held};
+ghost use Rattle.tor_recheck.specs.Readable.{readable_pieces};
 ghost use Rattle.tor_recheck.specs.Recheck.{IsGiven};
 ghost use Rattle.tor_recheck.specs.declared.errors.RecheckError.TheVariants.{Resources, Workers};
 ghost use Rattle.tor_recheck.specs.steps.Hashes.{cut_plan};
@@ -64,6 +65,7 @@ pub fn recheck_readable<S: Source, R: Threads + Sync>(
     ensures given { IfOk result (λ told.
         AllByRecursion (IsGivenFault (S.answers source.now) (length torrent.now.files)) told.faults.items) }
     ensures allowed { IsHow how → IfErr result (λ error. error ≢ Workers) }
+    ensures no_read_fault { IfErr result IsNoReadFault }
     ensures gave { IfErr result (IsGiven (S.answers source.now) (length torrent.now.files)) }
 {
     let ReadablePieces {
@@ -108,6 +110,7 @@ fn readable_in<S: Source, R: Threads + Sync>(
         AllByRecursion (IsGivenFault (S.answers source.now) (length torrent.now.files)) found.faults.items) }
     ensures cut { OnOk result (IsCut torrent.now) }
     ensures allowed { IsHow how → IfErr result (λ error. error ≢ Workers) }
+    ensures no_read_fault { IfErr result IsNoReadFault }
     ensures gave { IfErr result (IsGiven (S.answers source.now) (length torrent.now.files)) }
 {
     if !how.is_allowed() {

@@ -1,16 +1,22 @@
 -- Pieces that were found while their SHA-1s are owed. Only private clauses cite these.
-use Rattle.std.specs.Prelude.{◌≡◌, ℕ, List, length, is_some, sum_by, Option}
+use Rattle.std.specs.Prelude.{◌≡◌, ◌∷◌, ◌<◌, [], ℕ, List, length, is_some, slice_index_or, sum_by, true, Option, None}
+use Rattle.std.specs.Prelude.{Some}
+use Rattle.std.specs.Prelude.{if◌then◌else◌}
 use Rattle.std.specs.Vec.{with_items}
 use Rattle.tor_plan.specs.Pieces.{pieces_of_unit}
 use Rattle.tor_plan.specs.PlanFacts.{PlanFacts}
+use Rattle.tor_plan.specs.declared.units.Part.{Part}
 use Rattle.tor_plan.specs.declared.units.PlanUnit.{PlanUnit}
 use Rattle.tor_source.specs.Source.{SourceFacts}
+use Rattle.tor_tree.specs.Kinds.{has_v1, has_v2}
+use Rattle.tor_tree.specs.declared.kinds.Kind.{Kind}
 use Rattle.tor_sums.specs.Contents.{contents_in}
 use Rattle.tor_sums.specs.steps.Each.{OweEach}
 use Rattle.tor_sums.specs.steps.Owing.{paid_each}
 use Rattle.tor_engine.specs.PieceHashes.{hash_if_there}
 use Rattle.tor_engine.specs.There.{is_within}
 use Rattle.tor_engine.specs.declared.piece_hash.FoundPiece.{FoundPiece}
+use Rattle.tor_engine.specs.declared.piece_hash.FoundPiece.TheVariants.{Hashed, Unsummed}
 use Rattle.tor_engine.specs.declared.piece_work.UnitPieces.{UnitPieces}
 use Rattle.tor_engine.specs.steps.Pieces.{AreTold, hashes_in, owed_to_piece, paid_piece}
 
@@ -38,3 +44,15 @@ abbrev pub OwePieces : {F : Type 0} → (SourceFacts F → Type 0) → PlanFacts
     → List ℕ → Type 0
 OwePieces is_steady plan told unit one own =
     OweEach (FindsPiece is_steady plan told) (pieces_of_unit plan.piece_length unit) one.pieces.items own
+
+-- the pieces of a unit can be hashed together: the kind has trees, its file is longer than a piece, and all its bytes
+-- are there by the lengths that were told
+pub record IsTogether (plan : PlanFacts) (told : List (Option ℕ)) (unit : PlanUnit) : Type 0 where
+  pub trees : has_v2 plan.kind ≡ true
+  pub long : (part : Part) → unit.parts ≡ part ∷ []
+      → plan.piece_length < slice_index_or plan.lengths part.file 0
+  pub there : is_within told unit ≡ true
+
+-- what was found of a piece that has this root in its file's layer
+abbrev pub found_of : Kind → List ℕ → FoundPiece
+found_of kind root = if has_v1 kind then Unsummed (Some root) else Hashed (record { v1 = None; v2 = Some root })

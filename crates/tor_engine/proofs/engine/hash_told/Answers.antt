@@ -12,6 +12,9 @@ use Rattle.tor_sums.specs.declared.unit_sums.UnitSums.{UnitSums}
 use Rattle.tor_sums.specs.steps.Roots.{roots_of_trees}
 use Rattle.tor_sums.specs.steps.Reads.{HasParts}
 use Rattle.tor_sums.specs.steps.Run.{IsUnitToSum, parts_of}
+use Rattle.tor_engine.specs.Rows.{AreInFiles}
+use Rattle.tor_engine.proofs.GivenAnswers.{not_missing}
+use Rattle.tor_engine.proofs.LotRows.{units_in_files}
 use Rattle.tor_engine.proofs.PlanFaults.{fault_of_plan}
 use Rattle.tor_sums.proofs.PlanLevels.{units_to_sum}
 use Rattle.tor_engine.proofs.ReadContents.{contents_there, plan_there}
@@ -78,3 +81,10 @@ returns-clause-whole g c =
     summed.are in
     let hashed = summed.sums there.0 there.1 there.2 in
     (there.0, there.1, c.in_ok-sums.ensures.summed there.0 there.1 hashed)
+
+pub returns-in-Err-clause-gave : goal.returns-in-Err-clause-gave
+returns-in-Err-clause-gave g c =
+    let plan = c.args.plan.now in
+    not_missing (g.S.Source.answers c.args.source.now) plan.lengths c.in-Err.error
+    (c.in-Err.ensures.gave plan.lengths (subst (λ (units : List PlanUnit). AreInFiles plan.lengths units)
+    (sym c.units-units.ensures.value) (units_in_files plan c.units-units.ensures.planned)))

@@ -8,11 +8,12 @@ use Rattle.tor_plan.specs.declared.units.PlanUnit.{PlanUnit}
 use Rattle.tor_tree.specs.declared.kinds.Kind.{Kind}
 use Rattle.tor_sums.specs.Contents.{contents_in}
 use Rattle.tor_sums.specs.Fault.{IsFault, units_fault}
-use Rattle.tor_engine.specs.Rows.{units_between}
+use Rattle.tor_engine.specs.Rows.{AreInFiles, units_between}
 use Rattle.tor_sums.specs.steps.Reads.{HasParts}
 use Rattle.tor_engine.specs.steps.RowSums.{IsRowOfSums}
 use Rattle.tor_sums.specs.steps.Run.{IsUnitToSum, parts_of}
-use Rattle.tor_engine.proofs.LotRows.{between_there, between_to_sum, contents_between, have_same, row_is}
+use Rattle.tor_engine.proofs.LotRows.{between_in_files, between_there, between_to_sum, contents_between, have_same}
+use Rattle.tor_engine.proofs.LotRows.{row_is}
 use Rattle.tor_engine.proofs.RunRoots.{no_runs}
 use Rattle.tor_engine.proofs.UnitRuns.{units_summed}
 use Rattle.tor_engine.proofs.lot.hash_lot.Goals as goal
@@ -92,3 +93,15 @@ returns-clause-whole g c =
       row_is is_steady plan planned own sums c.deref.result.now c.in_ok-row.row c.deref.ensures.value hashed made
           there.0 there.1 there.2,
     )
+
+pub returns-in-Err-clause-of_lot : goal.returns-in-Err-clause-of_lot
+returns-in-Err-clause-of_lot g c = λ lengths are.
+    let is = c.units_between-units.ensures ∙ ap (units_between c.args.from c.args.to) c.units.ensures.value in
+    c.in-Err.ensures.gave lengths (subst (λ (units : List PlanUnit). AreInFiles lengths units) (sym is) are)
+
+pub returns-in-Err-clause-gave : goal.returns-in-Err-clause-gave
+returns-in-Err-clause-gave g c =
+    let plan = c.args.plan.now in
+    let is = c.units_between-units.ensures ∙ ap (units_between c.args.from c.args.to) c.units.ensures.value in
+    c.in-Err.ensures.gave plan.lengths (subst (λ (units : List PlanUnit). AreInFiles plan.lengths units) (sym is)
+    (between_in_files plan c.units.ensures.planned c.args.from c.args.to))

@@ -39,6 +39,16 @@ returns-in-Err-clause-refused g c = λ facts steady are.
       | inr fault ↦ let never = sym (no_first c.units-units.result.now) ∙ fault in cc
     ]
 
+pub returns-in-Err-clause-no_read_fault : goal.returns-in-Err-clause-no_read_fault
+returns-in-Err-clause-no_read_fault g c = c.in-Err.ensures.gave.0
+
+pub returns-in-Err-clause-gave : goal.returns-in-Err-clause-gave
+returns-in-Err-clause-gave g c =
+    let told = c.args.known.now.lengths.items in
+    let answers = g.S.Source.answers c.args.source.now in
+    subst (λ (ts : List (Option ℕ)). IsGivenRead (seen_answers ts answers) (lengths_of_sizes told) c.in-Err.error)
+    c.as_slice.ensures.value c.in-Err.ensures.gave.1
+
 pub returns-clause-found : goal.returns-clause-found
 returns-clause-found g c =
     let plan = c.args.plan.now in

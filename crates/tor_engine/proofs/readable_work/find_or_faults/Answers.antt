@@ -8,10 +8,10 @@ use Rattle.tor_sums.specs.steps.Given.{IsGivenRead, lengths_of_sizes}
 use Rattle.tor_sums.specs.declared.errors.EngineError.TheVariants.{Resources}
 use Rattle.tor_engine.specs.PieceFault.{piece_fault}
 use Rattle.tor_engine.specs.There.{is_within}
-use Rattle.tor_engine.specs.Readable.{error_of_fault, read_faults}
+use Rattle.tor_engine.specs.Readable.{IsNoReadFault, error_of_fault, read_faults}
 use Rattle.tor_engine.specs.steps.Pieces.{AreTold, hashes_in}
 use Rattle.tor_engine.specs.steps.Readable.{FindsReadable}
-use Rattle.tor_engine.proofs.FoundReadable.{finds_alone, finds_lost, no_other, piece_is_read, piece_there}
+use Rattle.tor_engine.proofs.FoundReadable.{finds_alone, finds_lost, no_other, no_read, piece_is_read, piece_there}
 use Rattle.tor_engine.proofs.PartsInside.{source_has_unit, unit_in_told}
 use Rattle.tor_engine.proofs.readable_work.find_or_faults.Goals as goal
 
@@ -33,6 +33,12 @@ returns-in-Err-as_read_fault-clause-refused g c = λ facts steady are.
       | inr fault ↦ absurd (no_other facts (piece_fault facts contents c.args.piece.now) c.in-Err.error
           (piece_is_read facts contents c.args.piece.now) fault c.in-Err-as_read_fault.ensures.1)
     ]
+
+pub returns-in-Err-as_read_fault-clause-no_read_fault : goal.returns-in-Err-as_read_fault-clause-no_read_fault
+returns-in-Err-as_read_fault-clause-no_read_fault g c =
+    subst (λ error. IsNoReadFault error) (sym c.in-Err-as_read_fault.ensures.0)
+    (no_read (g.S.FileBytes.answers c.args.source.now) (lengths_of_sizes c.args.known.now.lengths.items) c.in-Err.error
+    c.in-Err.ensures.gave c.in-Err-as_read_fault.ensures.1)
 
 pub returns-in-Ok-faults_of-clause-found : goal.returns-in-Ok-faults_of-clause-found
 returns-in-Ok-faults_of-clause-found g c =

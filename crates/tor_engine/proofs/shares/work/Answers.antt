@@ -8,9 +8,11 @@ use Rattle.tor_sums.specs.UnitSums.{unit_at}
 use Rattle.tor_sums.specs.declared.unit_sums.UnitSums.{UnitSums}
 use Rattle.tor_sums.specs.steps.Reads.{HasParts}
 use Rattle.tor_sums.specs.steps.Run.{IsUnitToSum, SumsUpUnit, parts_of}
+use Rattle.tor_engine.specs.Rows.{AreInFiles}
 use Rattle.tor_engine.specs.steps.Taken.{IsSumOf}
 use Rattle.tor_engine.proofs.Counts.{each_more}
 use Rattle.tor_sums.proofs.PlanLevels.{units_to_sum}
+use Rattle.tor_engine.proofs.LotRows.{units_in_files}
 use Rattle.tor_engine.proofs.ReadContents.{plan_there}
 use Rattle.tor_engine.proofs.UnitSummed.{are_unit_sums}
 use Rattle.tor_engine.proofs.shares.work.Goals as goal
@@ -51,3 +53,9 @@ returns-in-Ok-clause-within g c =
     (λ (one : UnitSums). one.unit < length plan.units) c.in-Ok.share.units.items
     (λ one is. subst (λ (all : List PlanUnit). one.unit < length all) c.units-units.ensures.value is.0)
     c.in-Ok.ensures.taken.took.2.summed)
+
+pub returns-in-Err-clause-gave : goal.returns-in-Err-clause-gave
+returns-in-Err-clause-gave g c =
+    let plan = c.args.plan.now in
+    c.in-Err.ensures.taken.gave plan.lengths (subst (λ (units : List PlanUnit). AreInFiles plan.lengths units)
+    (sym c.units-units.ensures.value) (units_in_files plan c.units-units.ensures.planned))

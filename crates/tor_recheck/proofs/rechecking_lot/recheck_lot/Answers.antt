@@ -1,13 +1,15 @@
 -- those of the lot
-use Rattle.tor_recheck.proofs.Names.{◌∙◌, ◌++◌, ◌+◌, ◌-◌, ℕ, Bool, List, None, Option, ap, ap₂, arith, drop, length, map}
+use Rattle.tor_recheck.proofs.Names.{◌∙◌, ◌++◌, ◌+◌, ◌-◌, ℕ, Bool, List, None, Option, ap, ap₂, arith, drop, length}
+use Rattle.tor_recheck.proofs.Names.{map}
 use Rattle.tor_recheck.proofs.Names.{has_bytes_of, list_any, ones, range_with_len, refl, replicate, subst, sym, take}
 use Rattle.tor_recheck.proofs.Names.{all_judged, IsFault, PieceHash, PlanUnit, option_map, of_engine_error}
 use Rattle.tor_recheck.proofs.Names.{[], IsGiven, IsGivenPieces, PlanFacts}
-use Rattle.tor_recheck.proofs.LotGiven.{given_own}
+use Rattle.tor_recheck.proofs.LotGiven.{given_own, of_own}
 use Rattle.tor_recheck.proofs.RecheckFaults.{given_of}
 use Rattle.tor_recheck.proofs.Rechecked.{count_is}
-use Rattle.tor_recheck.proofs.LotAnswers.{bits_found, counted, fault_is, hashes_counted, judged_counted, same_fault}
-use Rattle.tor_recheck.specs.Lots.{first_lot_fault, first_of_lot}
+use Rattle.tor_recheck.proofs.LotAnswers.{bits_found, counted, fault_is, hashes_counted, judged_counted, named_in_lot}
+use Rattle.tor_recheck.proofs.LotAnswers.{same_fault}
+use Rattle.tor_recheck.specs.Lots.{IsOfLot, first_lot_fault, first_of_lot}
 use Rattle.tor_recheck.specs.steps.Lots.{own_answers, own_facts}
 use Rattle.tor_recheck.proofs.rechecking_lot.recheck_lot.Goals as goal
 
@@ -111,6 +113,30 @@ returns-clause-counted g c =
     c.in-Ok.ensures.there) in
     ap length c.in_ok-bits_between.ensures
     ∙ counted view cut plan planned lots c.args.lot from to begins ends c.in_ok-bits.bits count
+
+pub returns-in-Err-clause-of_lot : goal.returns-in-Err-clause-of_lot
+returns-in-Err-clause-of_lot g c =
+    let view = c.args.torrent.now in
+    let lots = c.args.lots in
+    let plan = c.in_ok-plan.plan in
+    let cut = c.in_ok-plan.ensures.cut in
+    let planned = c.in_ok-plan.ensures.planned in
+    let from = c.first_of_lot-from.result in
+    let to = c.first_of_lot-to.result in
+    let units = ap length c.units-units.ensures.value in
+    let begins = c.first_of_lot-from.ensures.result ∙ ap₂ (λ n l. first_of_lot n lots l) units c.from.ensures in
+    let ends = c.first_of_lot-to.ensures.result ∙ ap₂ (λ n l. first_of_lot n lots (l + 1)) units c.from-2.ensures in
+    let own = c.deref.result.now in
+    let own_is = c.deref.ensures.value ∙ c.in_ok-own.ensures
+    ∙ ap₂ (λ (units : List PlanUnit) n. map (λ file. list_any (has_bytes_of file) units) (range_with_len 0 n))
+    (c.between.ensures ∙ ap (λ (units : List PlanUnit). take (to - from) (drop from units)) c.units-units.ensures.value)
+    (ap length c.lengths.ensures) in
+    let answers = g.S.Source.answers c.args.source.now in
+    let files = ap (λ (p : PlanFacts). length p.lengths) planned ∙ count_is view [] cut in
+    subst (λ error. IsOfLot view lots c.args.lot error) (sym c.into.ensures)
+    (of_own own answers view lots c.args.lot (length view.files)
+    (named_in_lot view cut plan planned lots c.args.lot from to begins ends own own_is) c.in-Err.error
+    (subst (λ (n : ℕ). IsGivenPieces (own_answers own answers) n c.in-Err.error) files c.in-Err.ensures.gave))
 
 pub returns-in-Err-clause-gave : goal.returns-in-Err-clause-gave
 returns-in-Err-clause-gave g c =

@@ -6,12 +6,12 @@ use Rattle.tor_recheck.proofs.Names.{◌≡◌, IsCut, IsGiven, View, of_engine_
 use Rattle.tor_recheck.proofs.Names.{PlanUnit}
 use Rattle.tor_engine.specs.Readable.{HasHashWithin, all_read_faults, error_of_fault, hash_if_readable, piece_faults}
 use Rattle.tor_engine.specs.Readable.{read_faults, readable_hashes, seen_contents, seen_lengths}
-use Rattle.tor_recheck.specs.Readable.{IsGivenFault, contents_seen}
+use Rattle.tor_recheck.specs.Readable.{IsGivenFault, IsNoReadFault, contents_seen}
 use Rattle.tor_recheck.specs.steps.Hashes.{cut_plan}
 use Rattle.tor_sums.specs.steps.Each.{SumUpEach}
 use Rattle.tor_recheck.proofs.ProvedLaws.{pieces_are_counted}
 use Rattle.tor_recheck.proofs.ReadableBits.{all_more}
-use Rattle.tor_recheck.proofs.RecheckFaults.{given_of}
+use Rattle.tor_recheck.proofs.RecheckFaults.{given_of, no_read_of}
 use Rattle.tor_recheck.proofs.Rechecked.{count_is, pieces_are}
 use Rattle.tor_recheck.proofs.rechecking_readable.readable_in.Goals as goal
 
@@ -79,6 +79,10 @@ returns-in-Ok-clause-given g c =
     (λ fault given. given_of answers n (error_of_fault fault) given) c.in-Ok.found.faults.items
     (subst (λ (m : ℕ). AllByRecursion (λ fault. IsGivenPieces answers m (error_of_fault fault))
     c.in-Ok.found.faults.items) count c.in-Ok.ensures.given)
+
+pub returns-clause-no_read_fault : goal.returns-clause-no_read_fault
+returns-clause-no_read_fault g c =
+    subst (λ error. IsNoReadFault error) (sym c.into.ensures) (no_read_of c.in-Err.error c.in-Err.ensures.no_read_fault)
 
 pub returns-clause-gave : goal.returns-clause-gave
 returns-clause-gave g c =

@@ -1,103 +1,20 @@
--- one piece after the other
-use Rattle.std.proofs.Common.{◌≡◌, ◌+◌, ℕ, List, length, inl, inr, ap, [], ◌∷◌, ◌++◌, append-nil, append_assoc, subst, sym}
-use Rattle.std.proofs.Common.{take, ◌∙◌}
-use Rattle.std.proofs.lemmas.List.{take_all, take_more}
-use Rattle.tor_plan.specs.Pieces.{pieces_of_unit}
-use Rattle.tor_plan.specs.declared.units.PlanUnit.{PlanUnit}
-use Rattle.tor_sums.specs.Contents.{contents_in}
-use Rattle.tor_sums.specs.steps.Each.{OweEach}
-use Rattle.tor_sums.specs.steps.Owing.{Owes}
-use Rattle.tor_engine.specs.PieceFault.{piece_fault, pieces_fault}
-use Rattle.tor_engine.specs.declared.piece_hash.FoundPiece.{FoundPiece}
-use Rattle.tor_engine.specs.steps.Unsummed.{FindsPiece, OwePieces}
-use Rattle.tor_sums.proofs.FirstOf.{first_at, first_next, first_of_none}
-use Rattle.tor_sums.proofs.PaidSums.{owe_next, owe_none}
+-- what is found of the unit's pieces
+use Rattle.std.proofs.Common.{◌++◌}
+use Rattle.tor_engine.specs.steps.Unsummed.{OwePieces}
+use Rattle.tor_sums.proofs.PaidSums.{owe_next}
 use Rattle.tor_engine.proofs.piece_work.PieceWorkUnitWork.hash.Goals as goal
 
-pub pieces-init : goal.pieces-init
-pieces-init g c = record {
-  owing = λ owed owes.
-      let work = c.args.self.now in (
-        [],
-        subst (λ (founds : List FoundPiece). OweEach (FindsPiece (g.S.FileBytes.is_steady work.source.now)
-            work.plan.now work.known.now.lengths.items) [] founds []) (sym c.in_ok-found.ensures.items)
-            (owe_none (FindsPiece (g.S.FileBytes.is_steady work.source.now) work.plan.now
-            work.known.now.lengths.items)),
-        subst (λ (all : List ℕ). Owes work.plan.now all c.args.worker.now) (sym (append-nil owed)) owes,
-      );
-  fault = λ facts steady told.
-      first_of_none (piece_fault facts (contents_in facts (length c.args.self.now.plan.now.lengths)));
-}
+pub find_pieces_of-requires-clause-owing : goal.find_pieces_of-requires-clause-owing
+find_pieces_of-requires-clause-owing g c = (c.requires.stands.2.0, c.requires.stands.2.1)
 
-pub find_piece-requires-clause-owing : goal.find_piece-requires-clause-owing
-find_piece-requires-clause-owing g c =
-    let before = c.requires.stands.2 in
-    let now = c.pieces.invariant.owing before.0 before.1 in
-    (before.0 ++ now.0, now.2)
-
-pub returns-in-Err-clause-fault : goal.returns-in-Err-clause-fault
-returns-in-Err-clause-fault g c = λ facts steady.
-    let contents = contents_in facts (length c.args.self.now.plan.now.lengths) in
-    elim (c.in-Err.ensures.fault facts steady.0 steady.1) [
-      | inl memory ↦ inl memory
-      | inr fault ↦ inr (ap (λ p. pieces_fault facts contents (pieces_of_unit p c.args.unit.now))
-          (sym c.piece_length.ensures)
-          ∙ ap (pieces_fault facts contents) (sym (c.as_slice-piece-items.ensures.value ∙ c.in_ok-pieces.ensures))
-          ∙ first_at (piece_fault facts contents) c.as_slice-piece-items.result.now c.pieces.piece-index _
-          c.in-Err.error c.pieces-test.true (c.pieces.invariant.fault facts steady.0 steady.1)
-          (ap (piece_fault facts contents) (sym c.piece-item.is) ∙ fault))
-    ]
-
-pub pieces-preserved : goal.pieces-preserved
-pieces-preserved g c = record {
-  owing = λ owed owes.
-      let work = c.args.self.now in
-      let finds = FindsPiece (g.S.FileBytes.is_steady work.source.now) work.plan.now work.known.now.lengths.items in
-      let pieces = c.as_slice-piece-items.result.now in
-      let i = c.pieces.piece-index in
-      let before = c.pieces.invariant.owing owed owes in
-      let one = c.in-Ok.ensures.owing (owed ++ before.0) before.2 in
-      let piece = subst (λ (it : PlanUnit). finds it c.in-Ok.one one.0) c.piece-item.is one.1 in (
-        before.0 ++ one.0,
-        subst (λ (founds : List FoundPiece). OweEach finds (take (i + 1) pieces) founds (before.0 ++ one.0))
-            (sym c.in_ok-push.ensures.items)
-            (subst (λ (xs : List PlanUnit). OweEach finds xs (c.pieces.found.items ++ c.in-Ok.one ∷ [])
-            (before.0 ++ one.0)) (sym (take_more pieces i _ c.pieces-test.true))
-            (owe_next finds (take i pieces) c.pieces.found.items before.0 _ c.in-Ok.one one.0 before.1 piece)),
-        subst (λ (all : List ℕ). Owes work.plan.now all c.find_piece.new.worker) (append_assoc owed before.0 one.0)
-            one.2,
-      );
-  fault = λ facts steady told.
-      let contents = contents_in facts (length c.args.self.now.plan.now.lengths) in
-      first_next (piece_fault facts contents) c.as_slice-piece-items.result.now c.pieces.piece-index _
-      c.pieces-test.true (c.pieces.invariant.fault facts steady told)
-      (ap (piece_fault facts contents) (sym c.piece-item.is) ∙ c.in-Ok.ensures.fault facts steady told);
-}
-
-pub returns-clause-stands : goal.returns-clause-stands
-returns-clause-stands g c = λ units before stands.
+pub returns-in-Ok-clause-stands : goal.returns-in-Ok-clause-stands
+returns-in-Ok-clause-stands g c = λ units before stands.
     let work = c.args.self.now in
-    let plan = work.plan.now in
     let is_steady = g.S.FileBytes.is_steady work.source.now in
     let told = work.known.now.lengths.items in
-    let items = c.as_slice-piece-items.result.now in
-    let all = take_all c.pieces.piece-index items c.pieces-test.false
-    ∙ c.as_slice-piece-items.ensures.value ∙ c.in_ok-pieces.ensures
-    ∙ ap (λ p. pieces_of_unit p c.args.unit.now) c.piece_length.ensures in
-    let owing = c.pieces.invariant.owing stands.0 stands.1 in (
-      stands.0 ++ owing.0,
-      owing.2,
-      owe_next (OwePieces is_steady plan told) units before stands.0 c.args.unit.now _ owing.0 stands.2
-          (subst (λ (pieces : List PlanUnit). OweEach (FindsPiece is_steady plan told) pieces c.pieces.found.items
-          owing.0) all owing.1),
+    let found = c.in-Ok.ensures.owing stands.0 stands.1 in (
+      stands.0 ++ found.0,
+      found.2,
+      owe_next (OwePieces is_steady work.plan.now told) units before stands.0 c.args.unit.now _ found.0 stands.2
+          found.1,
     )
-
-pub returns-clause-fault : goal.returns-clause-fault
-returns-clause-fault g c = λ facts steady.
-    let plan = c.args.self.now.plan.now in
-    let items = c.as_slice-piece-items.result.now in
-    let all = take_all c.pieces.piece-index items c.pieces-test.false
-    ∙ c.as_slice-piece-items.ensures.value ∙ c.in_ok-pieces.ensures
-    ∙ ap (λ p. pieces_of_unit p c.args.unit.now) c.piece_length.ensures in
-    ap (pieces_fault facts (contents_in facts (length plan.lengths))) (sym all)
-    ∙ c.pieces.invariant.fault facts steady.0 steady.1

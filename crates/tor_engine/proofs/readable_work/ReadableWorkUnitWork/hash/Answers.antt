@@ -1,13 +1,15 @@
 -- the whole unit, or each piece
-use Rattle.std.proofs.Common.{inl, inr, length, map, refl, sym, ◌∙◌}
+use Rattle.std.proofs.Common.{inl, inr, length, map, refl, subst, sym, ◌∙◌}
 use Rattle.tor_plan.specs.Pieces.{pieces_of_unit}
 use Rattle.tor_sums.specs.Contents.{contents_in}
 use Rattle.tor_sums.specs.steps.Given.{IsGivenRead, lengths_of_sizes}
+use Rattle.tor_engine.specs.Readable.{IsNoReadFault}
 use Rattle.tor_engine.specs.steps.Pieces.{hashes_in, unit_pieces_fault}
 use Rattle.tor_engine.specs.steps.Readable.{FindsUnit}
 use Rattle.tor_sums.proofs.PaidSums.{if_ok_more}
 use Rattle.tor_engine.proofs.Each.{each_next}
-use Rattle.tor_engine.proofs.FoundReadable.{both_ok, finds_as, finds_clean, no_other, pieces_are_read}
+use Rattle.tor_engine.proofs.FoundReadable.{both_err, both_ok, finds_as, finds_clean, no_other, no_read}
+use Rattle.tor_engine.proofs.FoundReadable.{pieces_are_read}
 use Rattle.tor_engine.proofs.readable_work.ReadableWorkUnitWork.hash.Goals as goal
 
 pub returns-in-Ok-clause-stands : goal.returns-in-Ok-clause-stands
@@ -37,6 +39,17 @@ returns-in-Err-as_read_fault-clause-fault g c = λ facts steady.
           c.in-Err-as_read_fault.ensures.1)
     ]
 
+pub returns-in-Err-as_read_fault-clause-gave : goal.returns-in-Err-as_read_fault-clause-gave
+returns-in-Err-as_read_fault-clause-gave g c =
+    let work = c.args.self.now in
+    let answers = g.S.FileBytes.answers work.source.now in
+    let lengths = lengths_of_sizes work.known.now.lengths.items in
+    subst (λ error. IsNoReadFault error × IsGivenRead answers lengths error)
+    (sym c.in-Err-as_read_fault.ensures.0) (
+      no_read answers lengths c.in-Err.error c.in-Err.ensures.gave c.in-Err-as_read_fault.ensures.1,
+      c.in-Err.ensures.gave,
+    )
+
 pub returns-clause-stands : goal.returns-clause-stands
 returns-clause-stands g c = λ units before each.
     let work = c.args.self.now in
@@ -46,3 +59,7 @@ returns-clause-stands g c = λ units before each.
     if_ok_more c.find_each.result _ _
     (λ sums both. (both.0, each_next finds units c.args.unit.now before sums each.1 both.1))
     (both_ok c.find_each.result _ _ c.find_each.ensures.owing c.find_each.ensures.found)
+
+pub returns-clause-gave : goal.returns-clause-gave
+returns-clause-gave g c =
+    both_err c.find_each.result _ _ c.find_each.ensures.no_read_fault c.find_each.ensures.gave

@@ -1,5 +1,12 @@
 -- the unit is one of those whose bytes the source has
-use Rattle.std.proofs.Common.{◌++◌}
+use Rattle.std.proofs.Common.{◌++◌, ℕ, List}
+use Rattle.std.specs.List.{All}
+use Rattle.std.proofs.lemmas.List.Elements.{All-contains}
+use Rattle.tor_plan.specs.WithinEntries.{IsInFile}
+use Rattle.tor_plan.specs.declared.units.PlanUnit.{PlanUnit}
+use Rattle.tor_sums.specs.steps.Given.{IsGivenRead}
+use Rattle.tor_engine.specs.Rows.{AreInFiles}
+use Rattle.tor_engine.proofs.GivenAnswers.{err_all}
 use Rattle.tor_sums.specs.steps.Run.{OwesUnit}
 use Rattle.tor_sums.proofs.Parts.{unit_has}
 use Rattle.tor_sums.proofs.PaidSums.{if_ok_more, owe_next}
@@ -26,4 +33,10 @@ returns-clause-fault g c = λ facts steady.
     (unit_has facts c.args.self.now.units.now c.args.unit.now c.requires.unit.1 steady.1)
 
 pub returns-clause-gave : goal.returns-clause-gave
-returns-clause-gave g c = c.sum_unit.ensures.gave c.args.self.now.plan.now.lengths c.requires.unit.0.within.parts
+returns-clause-gave g c =
+    let work = c.args.self.now in
+    let unit = c.args.unit.now in
+    err_all c.sum_unit.result (λ (lengths : List ℕ). AreInFiles lengths work.units.now)
+    (λ lengths error. IsGivenRead (g.S.FileBytes.answers work.source.now) lengths error)
+    (λ lengths are. c.sum_unit.ensures.gave lengths
+    (All-contains (λ (u : PlanUnit). All (IsInFile lengths) u.parts) work.units.now unit are c.requires.unit.1))
