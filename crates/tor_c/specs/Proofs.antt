@@ -1,7 +1,8 @@
 -- What the exports answer of proofs that a piece is of a file.
-use Rattle.std.specs.Prelude.{◌≡◌, ◌⊎◌, ℕ, ◌-◌, ◌*◌, ◌==◌, Bool, not, ◌&&◌, min, nat_lt, nat_le, List, length}
+use Rattle.std.specs.Prelude.{◌≡◌, ◌⊎◌, ℕ, ◌==◌, Bool, not, ◌&&◌, nat_lt, nat_le, List, length}
 use Rattle.std.specs.Prelude.{if◌then◌else◌, Option, None, Some, IsNone, IsTrue, unwrap_or}
 use Rattle.tor_engine.specs.PieceHashes.{merkle_hash}
+use Rattle.tor_piece.specs.Piece.{piece_size as size_of_piece}
 use Rattle.tor_merkle.specs.Layer.{is_piece_length}
 use Rattle.tor_merkle.specs.Proof.{is_proof, proof_count, proof_level}
 use Rattle.tor_merkle.specs.Subtree.{height}
@@ -24,9 +25,9 @@ is_proved claim hash siblings =
     is_proof claim.root (proof_count claim.size claim.piece_length) (proof_level claim.size claim.piece_length)
     claim.index hash siblings
 
--- how many bytes a piece of a file has: the last may have fewer than the others
+-- how many bytes the piece of a claim has
 abbrev pub piece_size : Claim → ℕ
-piece_size claim = min claim.piece_length (claim.size - claim.index * claim.piece_length)
+piece_size claim = size_of_piece claim.size claim.piece_length claim.index
 
 -- there are as many bytes as the piece has
 abbrev pub has_all_bytes : Claim → List ℕ → Bool

@@ -5,7 +5,9 @@ ghost use Rattle.tor_merkle.specs.Layer.{IsPieceLength};
 ghost use Rattle.tor_merkle.specs.declared.TheConstants.{MAX_LENGTH};
 
 use crate::{BAD_LENGTH, BAD_PIECE_LENGTH};
+use tor_merkle::laws::piece_length_bounds;
 use tor_merkle::{Hash, MAX_LENGTH, is_piece_length};
+use tor_piece::piece_size;
 
 /// Which piece of which file a proof is of.
 #[derive(Clone, Copy)]
@@ -43,9 +45,7 @@ impl Claim {
         requires small { self.now.size ≤ MAX_LENGTH }
         ensures { result ≡ piece_size self.now }
     {
-        match self.index.checked_mul(self.piece_length) {
-            Some(start) => self.piece_length.min(self.size.saturating_sub(start)),
-            None => 0,
-        }
+        piece_length_bounds();
+        piece_size(self.size, self.piece_length, self.index)
     }
 }

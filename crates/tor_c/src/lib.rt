@@ -3,7 +3,7 @@
 //! nothing to free: what is told is written where the caller has room for it.
 //!
 //! - `check.rt`, `magnet.rt`: what a torrent describes, and its magnet link, as texts. `hashes.rt`: its info hashes.
-//! - `verify.rt`: whether a proof of a piece holds; `claim.rt`: of which piece; `piece.rt`: the hash of a piece.
+//! - `verify.rt`: whether a proof of a piece holds; `claim.rt`: of which piece.
 //! - `sinks.rt`: where the object of a torrent goes, first counted, then into the caller's room. `report.rt`: a link
 //!   there. `outcome.rt`: what is told beside an answer.
 //! - `numbers.rt`: the numbers of refusals. The other answers are the constants below; [`laws`] (`laws.rt`) has what
@@ -17,7 +17,6 @@ pub mod laws;
 mod magnet;
 mod numbers;
 mod outcome;
-mod piece;
 mod report;
 mod sinks;
 mod verify;
