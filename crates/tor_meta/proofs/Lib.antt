@@ -17,6 +17,7 @@ pub mod RisingPaths
 pub mod StreamSums
 pub mod WithoutLetters
 pub mod GivenFiles
+pub mod FaultsOfLengths
 pub mod ByteFaults
 pub mod SourceFaults
 pub mod Made

@@ -1,14 +1,16 @@
 -- The plan of the files of a source: what it is of, and why there is none.
-use Rattle.std.specs.Prelude.{◌≡◌, ℕ, List, None, length, map, slice_index, Option}
+use Rattle.std.specs.Prelude.{◌≡◌, ℕ, List, None, Some, length, map, slice_index, Option}
 use Rattle.std.specs.Option.{option_or}
 use Rattle.tor_meta.specs.Make.{asked_fault, letters_at, listed_files, make_refusal}
 use Rattle.tor_meta.specs.Order.{settings_of_order}
 use Rattle.tor_meta.specs.PlanText.{PlanText, plan_bytes}
 use Rattle.tor_meta.specs.declared.make_error.MakeError.{MakeError}
+use Rattle.tor_meta.specs.declared.make_error.MakeError.TheVariants.{Hashing}
 use Rattle.tor_meta.specs.declared.order.Order.{Order}
 use Rattle.tor_source.specs.Answers.{Answers}
 use Rattle.tor_source.specs.Source.{SourceFacts}
 use Rattle.tor_sums.specs.Given.{HasToldLengths}
+use Rattle.tor_sums.specs.declared.errors.EngineError.TheVariants as engine
 use Rattle.tor_tree.specs.FileList.{IsInPathOrder, list_fault, paths_of}
 use Rattle.tor_tree.specs.PathList.{AreIndexedPaths, indices_of}
 use Rattle.tor_tree.specs.declared.attr.Attr.{Attr}
@@ -46,3 +48,11 @@ pub record IsPlanOfTold {F : Type 0} (answers : Answers F) (order : Order) (file
 -- why there is no plan, the first that there is: the refusals of `make`, then the lengths (profile)
 abbrev pub plan_fault : {F : Type 0} → SourceFacts F → Order → List (List (List ℕ)) → Option (MakeError F)
 plan_fault facts order paths = option_or (make_refusal order paths) (asked_fault facts (length paths))
+
+-- a fault of a plan is of a length that was asked: no byte is read, so none fails, and no file is seen to change
+-- (profile)
+abbrev pub IsFaultOfLengths : {F : Type 0} → MakeError F → Type 0
+IsFaultOfLengths (Hashing (engine.Read file (Some start) fault)) = ⊥
+IsFaultOfLengths (Hashing (engine.Changed file)) = ⊥
+IsFaultOfLengths (Hashing (engine.StreamTooLong file)) = ⊥
+IsFaultOfLengths error = Unit {0}

@@ -8,6 +8,7 @@ ghost use Rattle.tor_meta.specs.Head.{settings_of};
 ghost use Rattle.tor_meta.specs.Make.{IsGivenTo, IsMadeOfTold, IsMakeFault, IsOwn, asked_fault, files_of_source};
 ghost use Rattle.tor_meta.specs.Make.{letters_at, listed_files, make_refusal};
 ghost use Rattle.tor_meta.specs.Order.{settings_of_order};
+ghost use Rattle.tor_meta.specs.Planned.{IsFaultOfLengths};
 ghost use Rattle.tor_meta.specs.declared.make_error.MakeError.{MakeError};
 ghost use Rattle.tor_meta.specs.MakeError.{out_of_resources};
 ghost use Rattle.tor_source.specs.Source.{SourceFacts};
@@ -159,6 +160,7 @@ pub(crate) fn ask_lettered<S: Source>(
         (λ error. (error ≡ out_of_resources) ⊎ (asked_fault facts (length paths) ≡ Some error)) }
     ensures only { (first : Option (MakeError S.Fault)) → IfErr result (IsOwn first) }
     ensures gave { IfErr result (IsGivenTo (S.answers source.now) (length paths)) }
+    ensures lengths { IfErr result IsFaultOfLengths }
 {
     let lengths = match ask_lengths(alloc, source, paths.entries().len()) {
         Ok(lengths) => lengths,

@@ -2,7 +2,7 @@
 ghost use Rattle.std.specs.Prelude.{◌≡◌, ◌⊎◌, Some, None, IfErr, IfOk, OnOk, MatchResult, length};
 ghost use Rattle.tor_meta.specs.Make.{IsGivenTo, IsOwn, make_refusal};
 ghost use Rattle.tor_meta.specs.MakeError.{out_of_resources};
-ghost use Rattle.tor_meta.specs.Planned.{IsPlanOfSource, IsPlanOfTold, plan_fault};
+ghost use Rattle.tor_meta.specs.Planned.{IsFaultOfLengths, IsPlanOfSource, IsPlanOfTold, plan_fault};
 ghost use Rattle.tor_meta.specs.declared.make_error.MakeError.{MakeError};
 ghost use Rattle.tor_source.specs.Source.{SourceFacts};
 ghost use Rattle.tor_tree.specs.FileList.{paths_of};
@@ -37,6 +37,7 @@ pub fn make_plan<S: Source>(
         IfErr result (λ error. (error ≡ out_of_resources) ⊎ (error ≡ refusal)) }
     ensures only { IfErr result (IsOwn (make_refusal order.now (paths_of files.now))) }
     ensures gave { IfErr result (IsGivenTo (S.answers source.now) (length files.now)) }
+    ensures lengths { IfErr result IsFaultOfLengths }
 {
     let head = order.head(alloc)?;
     let paths = match accepted_paths(alloc, order, &head, files) {

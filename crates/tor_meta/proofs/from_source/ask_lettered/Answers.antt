@@ -3,6 +3,8 @@ use Rattle.std.proofs.Common.{◌≡◌, ℕ, List, None, length, ap, subst, sym
 use Rattle.tor_sums.specs.Given.{HasToldLengths, IsGivenAsked}
 use Rattle.tor_meta.specs.Make.{IsGivenTo, asked_fault}
 use Rattle.tor_meta.specs.MakeError.{of_contents_error}
+use Rattle.tor_meta.specs.Planned.{IsFaultOfLengths}
+use Rattle.tor_meta.proofs.FaultsOfLengths.{asked_of_lengths, listed_of_lengths}
 use Rattle.tor_meta.proofs.GivenFiles.{given_of_asked, given_of_lengths}
 use Rattle.tor_meta.proofs.SourceFiles.{entries_within, listed_at}
 use Rattle.tor_meta.proofs.from_source.ask_lettered.Goals as goal
@@ -50,3 +52,13 @@ returns-clause-fault g c = λ facts steady.
     let lengths = c.deref.ensures.value ∙ asked.told in
     subst (λ (n : ℕ). asked_fault facts n ≡ None) count
     (rw (asked.faultless, ← lengths, c.in-Ok-with_lengths.ensures.accepted) refl)
+
+pub returns-in-Err-clause-lengths : goal.returns-in-Err-clause-lengths
+returns-in-Err-clause-lengths g c =
+    subst IsFaultOfLengths (sym c.from.ensures)
+    (asked_of_lengths (g.S.Source.answers c.args.source.now) _ c.in-Err.error c.in-Err.ensures.gave)
+
+pub returns-in-Err-with_lengths-clause-lengths : goal.returns-in-Err-with_lengths-clause-lengths
+returns-in-Err-with_lengths-clause-lengths g c =
+    subst IsFaultOfLengths (sym (c.from-in-Err-with_lengths-2.ensures ∙ ap of_contents_error c.from-in-Err-with_lengths.ensures))
+    (listed_of_lengths _ c.in-Err-with_lengths.fault)

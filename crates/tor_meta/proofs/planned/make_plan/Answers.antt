@@ -3,6 +3,7 @@ use Rattle.std.proofs.Common.{length, subst, ℕ}
 use Rattle.std.proofs.lemmas.List.{length-map}
 use Rattle.tor_meta.specs.Make.{IsGivenTo}
 use Rattle.tor_tree.specs.FileList.{paths_of}
+use Rattle.tor_meta.proofs.FaultsOfLengths.{refused_of_lengths}
 use Rattle.tor_meta.proofs.Made.{judged_list}
 use Rattle.tor_meta.proofs.Refused.{given_or_not, paths_of as paths_accepted, span_of}
 use Rattle.tor_meta.proofs.planned.make_plan.Goals as goal
@@ -26,3 +27,7 @@ of_judged-requires-clause-judged g c =
     (paths_accepted c.args.order.now c.in_ok-head.head (paths_of c.args.files.now) c.in-Ok.ensures.accepted
     c.in_ok-head.ensures)
     told.3 c.files-listed.ensures.lawful
+
+pub returns-in-Err-clause-lengths : goal.returns-in-Err-clause-lengths
+returns-in-Err-clause-lengths g c =
+    refused_of_lengths c.args.order.now (paths_of c.args.files.now) c.in-Err.error c.in-Err.ensures.refused
