@@ -15,7 +15,7 @@ use Rattle.tor_cli.specs.make.ChosenFiles.{IsNoChoice, IsUnread}
 -- a list that was not read chooses no files
 pub not_read : (word : List ℕ) (reader reader' : Option (List ℕ)) (fault : InputFault)
     → IsUnread word reader reader' fault → IsNoChoice (Some word) reader reader' (of_input_fault fault)
-not_read word reader reader' inputs.Read why = why
+not_read word reader reader' (inputs.Read fault) why = why
 not_read word reader reader' inputs.TooLong why = why
 not_read word reader reader' inputs.Memory why = tt
 

@@ -2,7 +2,7 @@
 use Rattle.std.proofs.Common.{◌≡◌, ◌∙◌, ap, refl, sym, ℕ, Bool, true, false, not, true≢false, List, None, Option, Some, Bor}
 use Rattle.std.proofs.Common.{codes, option_map}
 use Rattle.std.proofs.Math.Bool.{beq}
-use Rattle.std.specs.Prelude.{is_none, is_some}
+use Rattle.std.specs.Prelude.{◌&&◌, is_none, is_some}
 use Rattle.clap.specs.Words.{first_of, first_value, one_text, rows_of}
 use Rattle.clap.specs.declared.parser.matches.Found.{Found}
 use Rattle.clap.proofs.WalkLemmas.{first_value-rows, one_text-rows}
@@ -30,3 +30,10 @@ given_if_none true false got same is = absurd (true≢false same)
 given_if_none false true got same is = absurd (true≢false same)
 given_if_none false false None same is = absurd (true≢false (sym is))
 given_if_none false false (Some text) same is = refl
+
+-- a flag that is given alone beside another one
+pub beside_null : (null bad : Bool) → (null && not bad) ≡ false → null ≡ true → bad ≡ true
+beside_null true true kept asked = refl
+beside_null true false kept asked = absurd (true≢false kept)
+beside_null false true kept asked = refl
+beside_null false false kept asked = absurd (true≢false (sym asked))

@@ -77,7 +77,7 @@ told_whole lines bytes reader writer writer' within (Err fault) told = tt
 module _ (lines : Data → Hashes → List ℕ) (s : Streams) (untouched : IsUntouched s) where
   -- a fault of reading, before anything was written
   pub stops_reading : (fault : InputFault) → StopsTelling lines s (of_input_fault fault)
-  stops_reading inputs.Read = untouched
+  stops_reading (inputs.Read fault) = untouched
   stops_reading inputs.TooLong = untouched
   stops_reading inputs.Memory = untouched
 
@@ -96,7 +96,7 @@ module _ (lines : Data → Hashes → List ℕ) (s : Streams) (untouched : IsUnt
   stops_judging bytes within (faults.NotAsMade good pieces) why = absurd why
   stops_judging bytes within faults.OutAmongFiles why = absurd why
   stops_judging bytes within (faults.Argument fault) why = absurd why
-  stops_judging bytes within faults.Read why = absurd why
+  stops_judging bytes within (faults.Read fault) why = absurd why
   stops_judging bytes within faults.TooLong why = absurd why
   stops_judging bytes within (faults.Write written) why = absurd why
   stops_judging bytes within faults.Resources why = untouched

@@ -20,7 +20,9 @@ pub mod Numerals
 pub mod Pairs
 pub mod PathTexts
 pub mod PathsTexts
+pub mod PieceBytes
 pub mod PlainLines
+pub mod PlanFaults
 pub mod Proofs
 pub mod Rechecking
 pub mod Siblings

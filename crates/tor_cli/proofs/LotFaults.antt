@@ -6,6 +6,7 @@ use Rattle.tor_parts.specs.OwnFiles.{IsGivenOwn}
 use Rattle.tor_source.specs.Answers.{system_answers}
 use Rattle.tor_sums.specs.declared.errors.EngineError.{EngineError}
 use Rattle.tor_sums.specs.declared.errors.EngineError.TheVariants as engine
+use Rattle.tor_sums.specs.How.{IsHow}
 use Rattle.tor_sums.specs.declared.how.How.{How}
 use Rattle.tor_tree.specs.FileList.{lengths_of}
 use Rattle.tor_meta.specs.Listing.{IsPlanRefusal}
@@ -24,16 +25,18 @@ use Rattle.tor_meta.specs.declared.join_error.JoinError.TheVariants as joins
 use Rattle.tor_meta.specs.declared.listing_error.PlanError.TheVariants as plans
 
 -- a fault of a file is told, and want of memory is the program's own
-pub no_lot : (how : How) (out : Option (List ℕ)) (plan : List ℕ) (fault : EngineError Error)
+pub no_lot : (how : How) (out : Option (List ℕ)) (plan : List ℕ) → IsHow how → (fault : EngineError Error)
     → OfPlan plan (λ text. IsGivenOwn (system_answers (length text.list.files)) (lengths_of text.list.files) fault)
     → IsNoLot how out plan (of_make_error (of_engine_error fault))
-no_lot how out plan (engine.Read file start why) (text, is, same, gave) =
-    (text, is, same, (engine.Read file start why, refl, gave))
-no_lot how out plan (engine.Changed file) (text, is, same, gave) = (text, is, same, (engine.Changed file, refl, gave))
-no_lot how out plan (engine.Missing file) (text, is, same, gave) = (text, is, same, (engine.Missing file, refl, gave))
-no_lot how out plan (engine.StreamTooLong file) (text, is, same, gave) =
-    (text, is, same, (engine.StreamTooLong file, refl, gave))
-no_lot how out plan engine.Resources given = tt
+no_lot how out plan allowed (engine.Read file start why) (text, is, same, gave) =
+    (allowed, (text, is, same, (engine.Read file start why, refl, gave)))
+no_lot how out plan allowed (engine.Changed file) (text, is, same, gave) =
+    (allowed, (text, is, same, (engine.Changed file, refl, gave)))
+no_lot how out plan allowed (engine.Missing file) (text, is, same, gave) =
+    (allowed, (text, is, same, (engine.Missing file, refl, gave)))
+no_lot how out plan allowed (engine.StreamTooLong file) (text, is, same, gave) =
+    (allowed, (text, is, same, (engine.StreamTooLong file, refl, gave)))
+no_lot how out plan allowed engine.Resources given = tt
 
 module _ (options : JoinOptions) (s : Streams) (untouched : IsUntouched s) where
   of_parts : (error : JoinError) → error ≢ joins.Memory → (fault : Fault)
@@ -55,7 +58,7 @@ module _ (options : JoinOptions) (s : Streams) (untouched : IsUntouched s) where
   of_parts error other (faults.NotAsMade good pieces) same not = absurd same
   of_parts error other faults.OutAmongFiles same not = absurd same
   of_parts error other (faults.Argument fault) same not = absurd same
-  of_parts error other faults.Read same not = absurd same
+  of_parts error other (faults.Read fault) same not = absurd same
   of_parts error other faults.TooLong same not = absurd same
   of_parts error other (faults.Write written) same not = absurd same
   of_parts error other faults.Resources same not = absurd same
@@ -77,29 +80,29 @@ module _ (options : JoinOptions) (s : Streams) (untouched : IsUntouched s) where
   not_joined (joins.Missing lots) fault same not = of_parts (joins.Missing lots) (λ e. cc) fault same not
 
 -- a plan that is refused is told as it is, and want of memory is the program's own
-pub no_plan : (how : How) (out : Option (List ℕ)) (plan : List ℕ) (error : PlanError) → IsPlanRefusal plan error
-    → IsNoLot how out plan (of_plan_error error)
-no_plan how out plan plans.NotAPlan why = (why, λ same. cc)
-no_plan how out plan (plans.Refused refusal) why = (why, λ same. cc)
-no_plan how out plan plans.Memory why = tt
+pub no_plan : (how : How) (out : Option (List ℕ)) (plan : List ℕ) → IsHow how → (error : PlanError)
+    → IsPlanRefusal plan error → IsNoLot how out plan (of_plan_error error)
+no_plan how out plan allowed plans.NotAPlan why = (allowed, (why, λ same. cc))
+no_plan how out plan allowed (plans.Refused refusal) why = (allowed, (why, λ same. cc))
+no_plan how out plan allowed plans.Memory why = tt
 
 -- that there is no lot stops it before anything was written
 module _ (options : LotOptions) (s : Streams) (untouched : IsUntouched s) (plan : List ℕ)
     (within : length plan ≤ MAX_INPUT_LENGTH) where
   pub stops_lot : (fault : Fault) → IsNoLot options.how (file_of_lot options) plan fault → StopsLot options s fault
-  stops_lot (faults.Usage line) why = absurd why
-  stops_lot (faults.Name fault) why = absurd why
-  stops_lot (faults.Refused refusal) why = absurd why
-  stops_lot (faults.Piece error) why = absurd why
-  stops_lot (faults.Recheck error) why = absurd why
-  stops_lot (faults.Join error part) why = absurd why
-  stops_lot (faults.NotAsMade good pieces) why = absurd why
-  stops_lot (faults.Argument fault) why = absurd why
+  stops_lot (faults.Usage line) why = absurd why.1
+  stops_lot (faults.Name fault) why = absurd why.1
+  stops_lot (faults.Refused refusal) why = absurd why.1
+  stops_lot (faults.Piece error) why = absurd why.1
+  stops_lot (faults.Recheck error) why = absurd why.1
+  stops_lot (faults.Join error part) why = absurd why.1
+  stops_lot (faults.NotAsMade good pieces) why = absurd why.1
+  stops_lot (faults.Argument fault) why = absurd why.1
   stops_lot (faults.Scan fault) why = ((plan, within, why), untouched)
   stops_lot (faults.Make error) why = ((plan, within, why), untouched)
   stops_lot (faults.Plan error) why = ((plan, within, why), untouched)
   stops_lot faults.OutAmongFiles why = ((plan, within, why), untouched)
-  stops_lot faults.Read why = absurd why
-  stops_lot faults.TooLong why = absurd why
+  stops_lot (faults.Read fault) why = absurd why.1
+  stops_lot faults.TooLong why = absurd why.1
   stops_lot (faults.Write written) why = inl ((plan, within, why), untouched)
   stops_lot faults.Resources why = ((plan, within, why), untouched)

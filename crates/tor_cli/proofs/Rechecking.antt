@@ -1,5 +1,5 @@
 -- Which fault of the program a fault of a recheck is.
-use Rattle.std.proofs.Common.{◌≡◌, ◌≢◌, ◌⊎◌, ◌∙◌, ◌==◌, ℕ, Bool, true, false, cond, List, length, map}
+use Rattle.std.proofs.Common.{◌≡◌, ◌≢◌, ◌⊎◌, ◌∙◌, ◌==◌, ◌≤◌, ℕ, Bool, true, false, cond, List, length, map}
 use Rattle.std.specs.Prelude.{Result, Ok, Err, OnOk, nat_le}
 use Rattle.std.proofs.Common.{ap, inl, inr, refl, subst, sym}
 use Rattle.std.proofs.lemmas.Bool.{eqb-true, le-leb, leb-true}
@@ -21,7 +21,17 @@ use Rattle.tor_source.specs.declared.faults.ScanFault.TheVariants as scans
 use Rattle.tor_spec.specs.valid.View.{View}
 use Rattle.tor_cli.specs.Foreign.{IsNoTorrent}
 use Rattle.tor_source.specs.Answers.{system_answers}
-use Rattle.tor_cli.specs.recheck.Recheck.{IsNoPlace, IsNotPlaced, IsNotRechecked}
+use Rattle.tor_recheck.specs.Lots.{IsOfLot}
+use Rattle.tor_recheck.specs.Readable.{IsNoReadFault}
+use Rattle.tor_source.specs.declared.input.TheConstants.{MAX_INPUT_LENGTH}
+use Rattle.tor_cli.specs.Streams.{IsUntouched, Streams}
+use Rattle.tor_cli.specs.recheck.Extra.{IsNoExtra, StopsExtra}
+use Rattle.tor_cli.specs.recheck.LotRecheck.{IsFaultOfLot, StopsLotRecheck}
+use Rattle.tor_cli.specs.declared.recheck.extra_words.ExtraOptions.{ExtraOptions}
+use Rattle.tor_cli.specs.declared.recheck.lot_words.LotRecheckOptions.{LotRecheckOptions}
+use Rattle.tor_cli.specs.declared.recheck.words.RecheckOptions.{RecheckOptions}
+use Rattle.tor_cli.specs.declared.lots.lot_number.LotNumber.{LotNumber}
+use Rattle.tor_cli.specs.recheck.Recheck.{IsPastReads, IsNoPlace, IsNotPlaced, IsNotRechecked, StopsRechecking}
 use Rattle.tor_cli.specs.Status.{of_recheck_error, of_scan_fault}
 use Rattle.tor_cli.specs.recheck.Whereabouts.{looked_for}
 use Rattle.tor_cli.specs.steps.Places.{ArePlaced, ArePlaces}
@@ -103,7 +113,7 @@ not_judged bytes (faults.Join error part) why = absurd why
 not_judged bytes (faults.NotAsMade good pieces) why = absurd why
 not_judged bytes faults.OutAmongFiles why = absurd why
 not_judged bytes (faults.Argument fault) why = absurd why
-not_judged bytes faults.Read why = absurd why
+not_judged bytes (faults.Read fault) why = absurd why
 not_judged bytes faults.TooLong why = absurd why
 not_judged bytes (faults.Write written) why = absurd why
 not_judged bytes faults.Resources why = tt
@@ -123,7 +133,7 @@ unplaced workers bytes (faults.Join error part) why = why
 unplaced workers bytes (faults.NotAsMade good pieces) why = why
 unplaced workers bytes faults.OutAmongFiles why = why
 unplaced workers bytes (faults.Argument fault) why = why
-unplaced workers bytes faults.Read why = why
+unplaced workers bytes (faults.Read fault) why = why
 unplaced workers bytes faults.TooLong why = why
 unplaced workers bytes (faults.Write written) why = why
 unplaced workers bytes faults.Resources why = why
@@ -179,3 +189,92 @@ module _ (place : List ℕ) (view : View) (places : List (List ℕ)) where
 -- what bytes describe is told of them
 pub told_of : {bytes : List ℕ} {view : View} {hashes : Hashes} → Describes bytes view hashes → IsTold bytes view
 told_of (root, same, with) = (root, with.torrent, same)
+
+-- a fault of a recheck that keeps going is told as it is
+pub past_reads : (error : RecheckError Error) → IsNoReadFault error → IsPastReads (of_recheck_error error)
+past_reads (rechecks.Read file start fault) past = past
+past_reads (rechecks.Changed file) past = past
+past_reads rechecks.Resources past = tt
+past_reads rechecks.Workers past = past
+
+-- one of the place is of no read
+pub unplaced_past : (bytes : List ℕ) (fault : Fault) → IsNotPlaced bytes fault → IsPastReads fault
+unplaced_past bytes (faults.Recheck error) why = absurd why
+unplaced_past bytes fault why = tt
+
+-- a fault of a lot's file is told as it is
+pub fault_of_lot : (lot : LotNumber) (bytes : List ℕ) (view : View) → IsTold bytes view → (error : RecheckError Error)
+    → IsOfLot view lot.lots lot.number error → IsFaultOfLot lot bytes (of_recheck_error error)
+fault_of_lot lot bytes view told (rechecks.Read file start fault) of_lot = (view, told, of_lot)
+fault_of_lot lot bytes view told (rechecks.Changed file) of_lot = (view, told, of_lot)
+fault_of_lot lot bytes view told rechecks.Resources of_lot = tt
+fault_of_lot lot bytes view told rechecks.Workers of_lot = (view, told, of_lot)
+
+pub unplaced_of_lot : (lot : LotNumber) (bytes : List ℕ) (fault : Fault) → IsNotPlaced bytes fault
+    → IsFaultOfLot lot bytes fault
+unplaced_of_lot lot bytes (faults.Recheck error) why = absurd why
+unplaced_of_lot lot bytes fault why = tt
+
+-- the system does not list a place
+pub no_extra : (bytes : List ℕ) (view : View) → IsTold bytes view → (fault : ScanFault)
+    → (fault ≡ scans.Memory) ⊎ (fault ≡ scans.System) → IsNoExtra bytes (of_scan_fault fault)
+no_extra bytes view told fault (inl memory) = rw memory tt
+no_extra bytes view told fault (inr system) = rw system (view, told)
+
+-- that it is not told stops it before anything was written
+module _ (s : Streams) (untouched : IsUntouched s) (bytes : List ℕ) (within : length bytes ≤ MAX_INPUT_LENGTH) where
+  pub stops_rechecking : (options : RecheckOptions) (fault : Fault) → IsNotRechecked options.workers bytes fault
+      → (options.keeps_going ≡ true → IsPastReads fault) → StopsRechecking options s fault
+  stops_rechecking options (faults.Recheck error) why past = ((bytes, within, why), past, untouched)
+  stops_rechecking options (faults.Refused refusal) why past = ((bytes, within, why), untouched)
+  stops_rechecking options (faults.Scan fault) why past = ((bytes, within, why), untouched)
+  stops_rechecking options faults.Resources why past = untouched
+  stops_rechecking options (faults.Usage line) why past = absurd why
+  stops_rechecking options (faults.Name fault) why past = absurd why
+  stops_rechecking options (faults.Make error) why past = absurd why
+  stops_rechecking options (faults.Piece error) why past = absurd why
+  stops_rechecking options (faults.Plan error) why past = absurd why
+  stops_rechecking options (faults.Join error part) why past = absurd why
+  stops_rechecking options (faults.NotAsMade good pieces) why past = absurd why
+  stops_rechecking options faults.OutAmongFiles why past = absurd why
+  stops_rechecking options (faults.Argument fault) why past = absurd why
+  stops_rechecking options (faults.Read fault) why past = absurd why
+  stops_rechecking options faults.TooLong why past = absurd why
+  stops_rechecking options (faults.Write written) why past = absurd why
+
+  pub stops_lot_recheck : (options : LotRecheckOptions) (fault : Fault) → IsNotRechecked options.workers bytes fault
+      → IsFaultOfLot options.lot bytes fault → StopsLotRecheck options s fault
+  stops_lot_recheck options (faults.Recheck error) why of_lot = ((bytes, within, (why, of_lot)), untouched)
+  stops_lot_recheck options (faults.Refused refusal) why of_lot = ((bytes, within, why), untouched)
+  stops_lot_recheck options (faults.Scan fault) why of_lot = ((bytes, within, why), untouched)
+  stops_lot_recheck options faults.Resources why of_lot = untouched
+  stops_lot_recheck options (faults.Usage line) why of_lot = absurd why
+  stops_lot_recheck options (faults.Name fault) why of_lot = absurd why
+  stops_lot_recheck options (faults.Make error) why of_lot = absurd why
+  stops_lot_recheck options (faults.Piece error) why of_lot = absurd why
+  stops_lot_recheck options (faults.Plan error) why of_lot = absurd why
+  stops_lot_recheck options (faults.Join error part) why of_lot = absurd why
+  stops_lot_recheck options (faults.NotAsMade good pieces) why of_lot = absurd why
+  stops_lot_recheck options faults.OutAmongFiles why of_lot = absurd why
+  stops_lot_recheck options (faults.Argument fault) why of_lot = absurd why
+  stops_lot_recheck options (faults.Read fault) why of_lot = absurd why
+  stops_lot_recheck options faults.TooLong why of_lot = absurd why
+  stops_lot_recheck options (faults.Write written) why of_lot = absurd why
+
+  pub stops_extra : (options : ExtraOptions) (fault : Fault) → IsNoExtra bytes fault → StopsExtra options s fault
+  stops_extra options (faults.Refused refusal) why = ((bytes, within, why), untouched)
+  stops_extra options (faults.Scan fault) why = ((bytes, within, why), untouched)
+  stops_extra options faults.Resources why = untouched
+  stops_extra options (faults.Usage line) why = absurd why
+  stops_extra options (faults.Name fault) why = absurd why
+  stops_extra options (faults.Make error) why = absurd why
+  stops_extra options (faults.Piece error) why = absurd why
+  stops_extra options (faults.Recheck error) why = absurd why
+  stops_extra options (faults.Plan error) why = absurd why
+  stops_extra options (faults.Join error part) why = absurd why
+  stops_extra options (faults.NotAsMade good pieces) why = absurd why
+  stops_extra options faults.OutAmongFiles why = absurd why
+  stops_extra options (faults.Argument fault) why = absurd why
+  stops_extra options (faults.Read fault) why = absurd why
+  stops_extra options faults.TooLong why = absurd why
+  stops_extra options (faults.Write written) why = absurd why

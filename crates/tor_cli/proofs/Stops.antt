@@ -79,7 +79,7 @@ refused_first first (Err error) given = given
 -- a fault of a file of letters, or want of memory
 of_letters : Fault → Bool
 of_letters (faults.Argument fault) = true
-of_letters faults.Read = true
+of_letters (faults.Read fault) = true
 of_letters faults.TooLong = true
 of_letters faults.Resources = true
 of_letters fault = false
@@ -89,7 +89,7 @@ no_other : (place : Option (List ℕ)) (paths : List (List (List ℕ))) (fault :
     → IsNotLettered place paths fault → ⊥
 unfolding of_letters
 no_other place paths (faults.Argument fault) e why = absurd cc
-no_other place paths faults.Read e why = absurd cc
+no_other place paths (faults.Read fault) e why = absurd cc
 no_other place paths faults.TooLong e why = absurd cc
 no_other place paths faults.Resources e why = absurd cc
 no_other None paths fault e why = why
@@ -98,7 +98,7 @@ no_other (Some place) paths fault e why = why
 module _ (options : MakeOptions) (s : Streams) where
   stops_input : (fault : InputFault) → ReadsSome s.reader s.reader' (EndsInput MAX_INPUT_LENGTH fault)
       → Keeps s.writer s.writer' → StopsInput options s (of_input_fault fault)
-  stops_input inputs.Read given keeps = inl (given, keeps)
+  stops_input (inputs.Read fault) given keeps = inl (given, keeps)
   stops_input inputs.TooLong given keeps = inl (given, keeps)
   stops_input inputs.Memory given keeps = (given, keeps)
 
@@ -153,7 +153,7 @@ module _ (options : MakeOptions) (s : Streams) where
   stops_sending chosen (faults.NotAsMade good pieces) why untouched = (why, untouched)
   stops_sending chosen faults.OutAmongFiles why untouched = (why, untouched)
   stops_sending chosen (faults.Argument fault) why untouched = (why, untouched)
-  stops_sending chosen faults.Read why untouched = (why, untouched)
+  stops_sending chosen (faults.Read fault) why untouched = (why, untouched)
   stops_sending chosen faults.TooLong why untouched = (why, untouched)
   stops_sending chosen (faults.Write written) why untouched = inl (why, untouched)
   stops_sending chosen faults.Resources why untouched = (why, untouched)
@@ -223,7 +223,7 @@ pub not_ordered : (options : MakeOptions) (s : Streams) (fault : Fault) → IsNo
 unfolding of_letters
 not_ordered options s (faults.Name fault) why read = (why, read)
 not_ordered options s (faults.Argument fault) (named, why) read = (named, why, read)
-not_ordered options s faults.Read (named, why) read = inr (named, why, read)
+not_ordered options s (faults.Read fault) (named, why) read = inr (named, why, read)
 not_ordered options s faults.TooLong (named, why) read = inr (named, why, read)
 not_ordered options s faults.Resources why ((content, reads), keeps) = ((content, reads.0.given, reads.1), keeps)
 not_ordered options s (faults.Usage line) (named, why) read =

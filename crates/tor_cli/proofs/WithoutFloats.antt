@@ -1,7 +1,8 @@
 -- No record has a float.
 use Rattle.std.proofs.Common.{◌≡◌, Bool, true, false, true≢false, ◌||◌, refl, ℕ, List, [], ◌∷◌, ◌++◌, map, Option}
 use Rattle.std.proofs.Common.{None, Some, codes}
-use Rattle.std.specs.Prelude.{if◌then◌else◌, length, slice_index, slice_index_or}
+use Rattle.std.specs.Prelude.{if◌then◌else◌, length, slice_index, slice_index_or, Vec}
+use Rattle.std.specs.declared.alloc.Global.{Global}
 use Rattle.serde_json.specs.Data.{Data, array, object}
 use Rattle.serde_json.specs.View.{items_of}
 use Rattle.serde_json.specs.Written.{has_float, items_have_float}
@@ -11,6 +12,7 @@ use Rattle.tor_recheck.specs.declared.file_pieces.ByteRange.{ByteRange}
 use Rattle.tor_source.specs.declared.refused.Refused.{Refused}
 use Rattle.tor_spec.specs.valid.View.{FileView, View}
 use Rattle.tor_tree.specs.declared.tree_file.TreeFile.{TreeFile}
+use Rattle.tor_cli.specs.recheck.Extra.{extra_data, extra_members}
 use Rattle.tor_cli.specs.recheck.FoundFiles.{is_whole}
 use Rattle.tor_cli.specs.text.Records.{files_data, found_data, length_data, range_data}
 use Rattle.tor_cli.specs.text.Records.{listed_data}
@@ -103,3 +105,10 @@ in_refused (one ∷ refused) = in_refused refused
 pub no_float_in_inventory : (found : Inventory) → has_float (object (scan_members found)) ≡ false
 no_float_in_inventory found =
     rw (in_scanned found (range_with_len 0 (length found.paths.items)), in_refused found.refused.items) refl
+
+in_extra : (extra : List (Vec ℕ Global)) → items_have_float (items_of (map extra_data extra)) ≡ false
+in_extra [] = refl
+in_extra (path ∷ extra) = in_extra extra
+
+pub no_float_in_extra : (extra : List (Vec ℕ Global)) → has_float (object (extra_members extra)) ≡ false
+no_float_in_extra extra = rw (in_extra extra) refl

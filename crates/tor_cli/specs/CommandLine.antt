@@ -71,9 +71,13 @@ span_option = record (option_of (codes "span")) {
 abbrev pub out_option : Rule
 out_option = option_of (codes "out")
 
+-- the word of this number, from 1, which may be there
+abbrev pub may_argument : List ℕ → ℕ → Rule
+may_argument name number = record (new_rule name) { index = Some number; value_names = 1 }
+
 -- the one word that belongs to no option
 abbrev pub path_argument : Rule
-path_argument = record (new_rule (codes "path")) { index = Some 1; value_names = 1 }
+path_argument = may_argument (codes "path") 1
 
 abbrev pub with_rules : App → List Rule → App
 with_rules app [] = app
@@ -169,7 +173,7 @@ prove_app = with_rules (new_app (codes "prove")) prove_rules
 abbrev pub verify_rules : List Rule
 verify_rules =
     argument_of (codes "root") 1 ∷ argument_of (codes "length") 2 ∷ argument_of (codes "piece-length") 3
-    ∷ argument_of (codes "proof") 4 ∷ []
+    ∷ argument_of (codes "proof") 4 ∷ may_argument (codes "bytes") 5 ∷ []
 
 abbrev pub verify_app : App
 verify_app = with_rules (new_app (codes "verify")) verify_rules
@@ -183,9 +187,10 @@ check_app = with_rules (new_app (codes "check")) check_rules
 
 abbrev pub recheck_rules : List Rule
 recheck_rules =
-    flag_of (codes "files") ∷ flag_of (codes "bad") ∷ flag_bound (codes "null") ∷ flag_bound (codes "json")
+    flag_of (codes "files") ∷ flag_of (codes "bad") ∷ flag_of (codes "null") ∷ flag_bound (codes "json")
     ∷ workers_option (codes "4") ∷ flag_of (codes "keep-going") ∷ flag_of (codes "no-links") ∷ flag_bound (codes "brief")
-    ∷ bound (option_of (codes "part")) ∷ argument_of (codes "file") 1 ∷ argument_of (codes "path") 2 ∷ []
+    ∷ bound (option_of (codes "part")) ∷ flag_bound (codes "extra") ∷ argument_of (codes "file") 1
+    ∷ argument_of (codes "path") 2 ∷ []
 
 abbrev pub recheck_app : App
 recheck_app = with_rules (new_app (codes "recheck")) recheck_rules

@@ -46,7 +46,7 @@ DoesTell lines s = (s.reader' ≡ s.reader) × TellsOfSome lines (Appends s.writ
 -- if this fault stopped it (profile)
 abbrev pub StopsTelling : (Data → Hashes → List ℕ) → Streams → Fault → Type 0
 StopsTelling lines s (Refused refusal) = OfSome (λ bytes. IsNoTorrent bytes (Refused refusal)) × IsUntouched s
-StopsTelling lines s Read = IsUntouched s
+StopsTelling lines s (Read fault) = IsUntouched s
 StopsTelling lines s TooLong = IsUntouched s
 StopsTelling lines s (Write written) =
     (s.reader' ≡ s.reader) × TellsOfSome lines (IsFront s.writer s.writer' written)

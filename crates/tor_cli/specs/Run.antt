@@ -12,6 +12,7 @@ use Rattle.tor_cli.specs.lots.Lots.{DoesJoin, DoesLot, StopsJoining, StopsLot}
 use Rattle.tor_cli.specs.lots.Planning.{DoesPlan, StopsPlanning}
 use Rattle.tor_cli.specs.make.Request.{DoesMake, StopsMake}
 use Rattle.tor_cli.specs.proof.Proving.{DoesProve, DoesVerify, StopsProving, StopsVerifying}
+use Rattle.tor_cli.specs.recheck.Extra.{DoesExtra, StopsExtra}
 use Rattle.tor_cli.specs.recheck.LotRecheck.{DoesLotRecheck, StopsLotRecheck}
 use Rattle.tor_cli.specs.recheck.Recheck.{DoesRecheck, StopsRechecking}
 use Rattle.tor_cli.specs.scan.Scanning.{DoesScan, StopsScanning}
@@ -22,7 +23,7 @@ use Rattle.tor_cli.specs.declared.command.Request.{Request}
 use Rattle.tor_cli.specs.declared.command.Request.TheVariants.{Check, Magnet, Prove, Show, Verify}
 use Rattle.tor_cli.specs.declared.command.Request.TheVariants.{Edit as ToEdit, Join as ToJoin, Lot as ToLot, Make as ToMake}
 use Rattle.tor_cli.specs.declared.command.Request.TheVariants.{Plan as ToPlan, Recheck as ToRecheck, Scan as ToScan}
-use Rattle.tor_cli.specs.declared.command.Request.TheVariants.{RecheckLot as ToRecheckLot}
+use Rattle.tor_cli.specs.declared.command.Request.TheVariants.{Extra as ToExtra, RecheckLot as ToRecheckLot}
 use Rattle.tor_cli.specs.declared.fault.Fault.{Fault}
 use Rattle.tor_cli.specs.declared.fault.Fault.TheVariants.{Write}
 
@@ -41,6 +42,7 @@ IsDone (Prove options) s = DoesProve options s
 IsDone (Verify options) s = DoesVerify options Yes s
 IsDone (ToRecheck options) s = DoesRecheck options Yes s
 IsDone (ToRecheckLot options) s = DoesLotRecheck options Yes s
+IsDone (ToExtra options) s = DoesExtra options Yes s
 
 -- what is read and written for a request, with this answer. Only a question is ever answered by no (profile)
 abbrev pub Does : Request → Answer → Streams → Type 0
@@ -49,6 +51,7 @@ Does (ToScan options) No s = DoesScan options No s
 Does (Verify options) No s = DoesVerify options No s
 Does (ToRecheck options) No s = DoesRecheck options No s
 Does (ToRecheckLot options) No s = DoesLotRecheck options No s
+Does (ToExtra options) No s = DoesExtra options No s
 Does request No s = ⊥
 
 -- if this fault stopped it (profile)
@@ -68,6 +71,7 @@ Stops (Prove options) s fault = StopsProving options s fault
 Stops (Verify options) s fault = StopsVerifying options s fault
 Stops (ToRecheck options) s fault = StopsRechecking options s fault
 Stops (ToRecheckLot options) s fault = StopsLotRecheck options s fault
+Stops (ToExtra options) s fault = StopsExtra options s fault
 
 -- what the words ask for was done with this answer
 abbrev pub DoesAsked : List (List ℕ) → Streams → Answer → Type 0

@@ -32,7 +32,7 @@ use Rattle.tor_cli.specs.declared.fault.Fault.TheVariants.{Usage, Name, Scan, Ma
 use Rattle.tor_cli.specs.declared.fault.Fault.TheVariants.{Plan, Join, NotAsMade, OutAmongFiles, Read, TooLong, Write, Resources}
 
 abbrev pub of_input_fault : InputFault → Fault
-of_input_fault inputs.Read = Read
+of_input_fault (inputs.Read fault) = Read fault
 of_input_fault inputs.TooLong = TooLong
 of_input_fault inputs.Memory = Resources
 
@@ -128,7 +128,7 @@ status_of (Join error part) = 1
 status_of (NotAsMade good pieces) = 1
 status_of OutAmongFiles = 1
 status_of (Argument fault) = 1
-status_of Read = 3
+status_of (Read fault) = 3
 status_of TooLong = 3
 status_of (Write written) = 3
 status_of Resources = 4

@@ -14,9 +14,10 @@ use Rattle.tor_cli.specs.declared.check.words.CheckOptions.{CheckOptions}
 use Rattle.tor_cli.specs.declared.check.link.MagnetOptions.{MagnetOptions}
 use Rattle.tor_cli.specs.declared.command.Request.{Request}
 use Rattle.tor_cli.specs.declared.command.Request.TheVariants.{Show, Make, Plan, Lot, Join, Edit, Scan, Check, Magnet}
-use Rattle.tor_cli.specs.declared.command.Request.TheVariants.{Prove, Verify, Recheck, RecheckLot}
+use Rattle.tor_cli.specs.declared.command.Request.TheVariants.{Extra, Prove, Verify, Recheck, RecheckLot}
 use Rattle.tor_cli.specs.declared.fault.Fault.{Fault}
 use Rattle.tor_cli.specs.declared.fault.Fault.TheVariants.{Usage, Resources}
+use Rattle.tor_cli.specs.declared.recheck.extra_words.ExtraOptions.{ExtraOptions}
 use Rattle.tor_cli.specs.declared.recheck.listing.Form.{Form}
 use Rattle.tor_cli.specs.declared.recheck.listing.Form.TheVariants.{Brief, Json, Text}
 use Rattle.tor_cli.specs.declared.recheck.listing.Listing.{Listing}
@@ -191,6 +192,7 @@ pub record IsProofIn (options : VerifyOptions) (rows : List Row) : Type 0 where
   pub length : first_of (codes "length") rows ≡ Some options.length.now
   pub piece_length : first_of (codes "piece-length") rows ≡ Some options.piece_length.now
   pub proof : first_of (codes "proof") rows ≡ Some options.proof.now
+  pub bytes : first_of (codes "bytes") rows ≡ option_map (λ place. place.now) options.bytes
 
 -- which files are listed, where `--files`, `--bad` and `--null` are each given or not
 abbrev pub listing_of : Bool → Bool → Bool → Listing
@@ -218,6 +220,18 @@ pub record IsRecheckIn (options : RecheckOptions) (rows : List Row) : Type 0 whe
   pub keeps_going : (given : Bool) → IsFlag rows (codes "keep-going") given → options.keeps_going ≡ given
   pub follows_links : (given : Bool) → IsFlag rows (codes "no-links") given → options.follows_links ≡ not given
   pub whole : first_of (codes "part") rows ≡ None
+  pub pieces : (given : Bool) → IsFlag rows (codes "extra") given → given ≡ false
+  pub null : (bad null : Bool) → IsFlag rows (codes "bad") bad → IsFlag rows (codes "null") null → null ≡ true
+      → bad ≡ true
+
+-- they ask for the files below this folder that this torrent does not have, in this form (profile)
+pub record IsExtraIn (options : ExtraOptions) (rows : List Row) : Type 0 where
+  pub torrent : first_of (codes "file") rows ≡ Some options.torrent.now
+  pub place : first_of (codes "path") rows ≡ Some options.place.now
+  pub form : (null json : Bool) → IsFlag rows (codes "null") null → IsFlag rows (codes "json") json
+      → options.form ≡ scan_form_of null json
+  pub whole : first_of (codes "part") rows ≡ None
+  pub extra : (given : Bool) → IsFlag rows (codes "extra") given → given ≡ true
 
 -- they ask for the pieces of this lot of this torrent alone (profile)
 pub record IsLotRecheckIn (options : LotRecheckOptions) (rows : List Row) : Type 0 where
@@ -228,6 +242,7 @@ pub record IsLotRecheckIn (options : LotRecheckOptions) (rows : List Row) : Type
       → options.form ≡ form_of brief json
   pub workers : IsWorkersIn rows (λ workers. options.workers ≡ workers)
   pub follows_links : (given : Bool) → IsFlag rows (codes "no-links") given → options.follows_links ≡ not given
+  pub null : (given : Bool) → IsFlag rows (codes "null") given → given ≡ false
 
 -- this command was found, with rows of which this holds
 abbrev pub HasRows : Option (List ℕ × List Row) → List ℕ → (List Row → Type 0) → Type 0
@@ -252,6 +267,7 @@ Asks words (Prove options) = HasCommand words (codes "prove") (IsPieceIn options
 Asks words (Verify options) = HasCommand words (codes "verify") (IsProofIn options)
 Asks words (Recheck options) = HasCommand words (codes "recheck") (IsRecheckIn options)
 Asks words (RecheckLot options) = HasCommand words (codes "recheck") (IsLotRecheckIn options)
+Asks words (Extra options) = HasCommand words (codes "recheck") (IsExtraIn options)
 
 -- a fault of usage, whose line ends in where the help of this command is
 abbrev pub IsUsage : List ℕ → Fault → Type 0

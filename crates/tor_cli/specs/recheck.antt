@@ -1,4 +1,5 @@
 pub mod BadBytes
+pub mod Extra
 pub mod FoundFiles
 pub mod LotRecheck
 pub mod Recheck

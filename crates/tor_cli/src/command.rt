@@ -1,8 +1,8 @@
 //! The command line: what the words ask for. Here stand help and the version; each command has a file of its own.
 ghost use Rattle.clap.specs.Walk.{texts};
-ghost use Rattle.clap.specs.Words.{app_of, found_of, rows_of, subcommand_rows_of, with_subcommand};
+ghost use Rattle.clap.specs.Words.{app_of, first_of, found_of, rows_of, subcommand_rows_of, with_subcommand};
 ghost use Rattle.clap.specs.declared.builder.command.Command.{Command as BuiltCommand};
-ghost use Rattle.std.specs.Prelude.{◌≡◌, IfErr, IfOk, IfSome, Ok, Some, codes, true};
+ghost use Rattle.std.specs.Prelude.{◌≡◌, IfErr, IfOk, IfSome, None, Ok, Some, codes, true};
 ghost use Rattle.tor_cli.specs.CommandLine.{Parsers, explained, piece_apps, tor_app, torrent_apps, with_commands};
 ghost use Rattle.tor_cli.specs.Words.{Asks, IsOfWords};
 ghost use Rattle.tor_cli.specs.steps.Found.{IsFoundIn};
@@ -22,6 +22,7 @@ use crate::make::words::make_command;
 use crate::proof::words::{
     ProveOptions, VerifyOptions, prove_command, prove_options, verify_command, verify_options,
 };
+use crate::recheck::extra_words::{ExtraOptions, extra_options};
 use crate::recheck::lot_words::{LotRecheckOptions, lot_recheck_options};
 use crate::recheck::words::{RecheckOptions, recheck_command, recheck_options};
 use crate::scan::words::{ScanOptions, scan_command, scan_options};
@@ -66,6 +67,8 @@ pub enum Request<'a> {
     Recheck(RecheckOptions<'a>),
     /// To tell it of one lot of the pieces.
     RecheckLot(LotRecheckOptions<'a>),
+    /// To tell which files the torrent does not have.
+    Extra(ExtraOptions<'a>),
 }
 
 /// Reads the words, of which the first is the program's name.
@@ -170,6 +173,9 @@ fn unread(alloc: Global, matches: &ArgMatches<'_>) -> Result<Fault, AllocError>
     if has_no_part(matches) {
         return Fault::usage(alloc, NO_PART, "tor recheck");
     }
+    if has_null_alone(matches) {
+        return Fault::usage(alloc, NULL_ALONE, "tor recheck");
+    }
     if let Some(word) = workers_word(matches, "make") {
         return workers_fault(alloc, word, "tor make");
     }
@@ -203,6 +209,19 @@ const NO_PART: &str =
 fn has_no_part(matches: &ArgMatches<'_>) -> bool {
     match part_of(matches, "recheck") {
         Some(part) => lot_of(part).is_none(),
+        None => false,
+    }
+}
+
+const NULL_ALONE: &str =
+    "the following required arguments were not provided: --bad, or --extra, beside '--null'";
+
+/// Whether the paths of a recheck are to end with zero bytes, and none is asked for.
+fn has_null_alone(matches: &ArgMatches<'_>) -> bool {
+    match matches.subcommand_matches("recheck") {
+        Some(recheck) => recheck.get_flag("null")
+            && !recheck.get_flag("bad")
+            && !recheck.get_flag("extra"),
         None => false,
     }
 }
@@ -297,7 +316,7 @@ fn request_of_pieces<'a, T: Threads>(rt: &T, matches: &ArgMatches<'a>) -> Option
     None
 }
 
-/// The request of `recheck`: of a whole torrent, or of one lot of its pieces.
+/// The request of `recheck`: of a whole torrent, of one lot of its pieces, or of the files that it does not have.
 fn request_to_recheck<'a, T: Threads>(
     rt: &T,
     recheck: &ArgMatches<'a>,
@@ -308,8 +327,24 @@ fn request_to_recheck<'a, T: Threads>(
 {
     match recheck.get_str("part") {
         Some(_) => Some(Request::RecheckLot(lot_recheck_options(rt, recheck)?)),
-        None => Some(Request::Recheck(recheck_options(rt, recheck)?)),
+        None => request_of_whole(rt, recheck, matches),
     }
+}
+
+/// The request of `recheck`, of a whole torrent: its pieces, or the files that it does not have.
+fn request_of_whole<'a, T: Threads>(
+    rt: &T,
+    recheck: &ArgMatches<'a>,
+    matches: &ArgMatches<'a>,
+) -> Option<Request<'a>>
+    requires found { subcommand_rows_of matches.now ≡ Some (codes "recheck", rows_of (found_of recheck.now)) }
+    requires whole { first_of (codes "part") (rows_of (found_of recheck.now)) ≡ None }
+    ensures { IfSome result (IsFoundIn matches.now) }
+{
+    if recheck.get_flag("extra") {
+        return Some(Request::Extra(extra_options(recheck)?));
+    }
+    Some(Request::Recheck(recheck_options(rt, recheck)?))
 }
 
 /// What is wrong with the words, said of them as they are printed. No word that `clap` knows has a byte that is

@@ -23,6 +23,7 @@ use crate::make::command::make;
 use crate::proof::prove::prove;
 use crate::proof::verify::verify;
 use crate::recheck::command::recheck;
+use crate::recheck::extra::tell_extra;
 use crate::recheck::lot::recheck_part;
 use crate::scan::command::scan;
 use std::io::{Read, Write};
@@ -127,6 +128,7 @@ fn perform<T: Threads + Wait + Sync + Send + Clone + Drop + 'static, R: Read, W:
         Request::Verify(options) => verify(system, options, out),
         Request::Recheck(options) => recheck(rt, system, options, out, shows_progress),
         Request::RecheckLot(options) => recheck_part(rt, system, options, out, shows_progress),
+        Request::Extra(options) => tell_extra(system, options, out),
     }
 }
 

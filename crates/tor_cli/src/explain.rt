@@ -57,7 +57,7 @@ fn reason_in(
         Fault::Recheck(error) => recheck_reason(system, request, error),
         Fault::Join(error, _) => plain_text(alloc, words_of_join(error)),
         Fault::Argument(fault) => argument_reason(system, request, *fault),
-        Fault::Read => read_reason(system, request),
+        Fault::Read(fault) => read_reason(system, request, fault),
         Fault::Write(stop) => write_reason(alloc, request, stop),
         other => plain_text(alloc, words_of_fault(other)),
     }

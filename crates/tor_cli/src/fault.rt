@@ -42,8 +42,8 @@ pub enum Fault {
     OutAmongFiles,
     /// An argument of `verify`, or the file of `--attrs` or `--files-from`, is none of its kind.
     Argument(ArgumentFault),
-    /// Standard input, or a FILE, was not read whole.
-    Read,
+    /// Standard input, or a FILE, was not read whole, for this reason of the system's.
+    Read(io::Error),
     TooLong,
     /// So many bytes went out.
     Write(Unwritten),
@@ -78,7 +78,7 @@ impl Fault {
             Fault::Plan(_) | Fault::Join(..) => 1,
             Fault::NotAsMade { .. } | Fault::OutAmongFiles => 1,
             Fault::Argument(_) => 1,
-            Fault::Read | Fault::TooLong | Fault::Write(_) => 3,
+            Fault::Read(_) | Fault::TooLong | Fault::Write(_) => 3,
             Fault::Resources => 4,
         }
     }
@@ -178,7 +178,7 @@ impl fmt::Display for Fault {
             }
             Fault::OutAmongFiles => f.write_str("out among files"),
             Fault::Argument(fault) => write!(f, "{fault}"),
-            Fault::Read => f.write_str("read fault"),
+            Fault::Read(_) => f.write_str("read fault"),
             Fault::TooLong => f.write_str("input too long"),
             Fault::Write(stop) => write!(f, "write fault after {} bytes", stop.written()),
             Fault::Resources => f.write_str("out of resources"),

@@ -24,7 +24,7 @@ impl From<InputFault> for Fault {
 
     fn from(fault: InputFault) -> Fault {
         match fault {
-            InputFault::Read => Fault::Read,
+            InputFault::Read(fault) => Fault::Read(fault),
             InputFault::TooLong => Fault::TooLong,
             InputFault::Memory => Fault::Resources,
         }

@@ -13,6 +13,6 @@ pub fn read_file<H: Files>(alloc: Global, system: &H, place: &str) -> Result<Vec
 {
     match fs::open(system, place) {
         Ok(mut file) => read_limited(alloc, &mut file, MAX_INPUT_LENGTH),
-        Err(_) => Err(InputFault::Read),
+        Err(fault) => Err(InputFault::Read(fault)),
     }
 }

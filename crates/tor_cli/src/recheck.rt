@@ -4,11 +4,16 @@
 //! - `whereabouts.rt`: where the files of the torrent are looked for; `source.rt`: what stands there.
 //! - `text.rt` has the pieces looked for, and tells what is printed of them, `found_text.rt` what is of the files;
 //!   `record.rt`: both as JSON, with the bytes that do not hold (`bytes_found.rt`).
+//! - `extra.rt`: the files that the torrent does not have, and `extra_text.rt` what is printed of them;
+//!   `extra_words.rt`: the words that ask for them.
 //! - `counts.rt`: how many pieces are there and right. `lot.rt`, `lot_words.rt`: those of one lot.
 
 mod bytes_found;
 pub(crate) mod command;
 pub mod counts;
+pub(crate) mod extra;
+mod extra_text;
+pub(crate) mod extra_words;
 mod found_text;
 mod listing;
 pub(crate) mod lot;

@@ -1,10 +1,14 @@
 //! A file that appears whole or not at all.
-ghost use Rattle.std.specs.Prelude.{◌≡◌, ◌<◌, IfErr, IfOk, OnOk, length, option_map, string_bytes};
+ghost use Rattle.std.specs.Prelude.{◌≡◌, ◌⊎◌, ◌<◌, IfErr, IfOk, IsSome, OnOk, length, option_map, string_bytes};
+ghost use Rattle.tor_cli.specs.declared.fault.Fault.TheVariants.{Resources};
+ghost use Rattle.tor_cli.specs.declared.fault.Fault.TheVariants.{Write as OutFault};
 ghost use Rattle.tor_cli.specs.steps.WholeFiles.{place_of_whole};
 ghost use Rattle.tor_cli.specs.make.Request.{Sends, SendsFront};
 
+use crate::fault::Fault;
 use crate::foreign::read_file;
 use crate::make::out_file::write_file;
+use crate::unwritten::Unwritten;
 use std::alloc::{AllocError, Global};
 use std::fs::{self, File};
 use std::io::{self, ErrorKind, Write};
@@ -32,6 +36,26 @@ pub fn whole_file(
             beside: beside_of(system, place)?,
         })),
         None => Ok(None),
+    }
+}
+
+/// Refuses a file that could not appear, before there is anything to write: another one beside it is made, and removed.
+pub fn refuse_unmakeable(system: &HostRuntime, place: Option<&str>) -> Result<(), Fault>
+    ensures { IfErr result (λ fault. (fault ≡ Resources)
+        ⊎ ((fault ≡ OutFault 0) × IsSome (option_map (λ name. name.now) place.entry))) }
+{
+    let Some(place) = place else {
+        return Ok(());
+    };
+    let Some(beside) = beside_of(system, place)? else {
+        return Ok(());
+    };
+    match new_file(system, &beside) {
+        Ok((name, _)) => {
+            let _ = system.remove_file(name.as_str());
+            Ok(())
+        }
+        Err(reason) => Err(Fault::Write(Unwritten::before_all(reason))),
     }
 }
 

@@ -29,7 +29,7 @@ DoesEdit options s = (s.reader' ≡ s.reader) × EditsSome options (Sends (file_
 -- if this fault stopped it (profile)
 abbrev pub StopsEditing : EditOptions → Streams → Fault → Type 0
 StopsEditing options s (Refused refusal) = OfSome (λ bytes. IsNoTorrent bytes (Refused refusal)) × IsUntouched s
-StopsEditing options s Read = IsUntouched s
+StopsEditing options s (Read fault) = IsUntouched s
 StopsEditing options s TooLong = IsUntouched s
 StopsEditing options s (Write written) =
     (s.reader' ≡ s.reader) × EditsSome options (SendsFront (file_of options) s.writer s.writer' written)

@@ -42,19 +42,23 @@ IsLotAt lot plan bytes = OfPlan plan (λ text. (contents : List (List ℕ))
     × (map length contents ≡ lengths_of text.list.files)
     × IsLotOf (plan_of_text text) (pieces_root plan) lot.lots lot.number contents bytes)
 
--- why there is no lot of the plan, which was to go to this file if there is one: a fault of one of the plan's files; it
--- is no plan; there is no worker or too many; the file is one of the plan's, it cannot be written, or the system does
--- not tell of one of them
-abbrev pub IsNoLot : How → Option (List ℕ) → List ℕ → Fault → Type 0
-IsNoLot how out plan (Plan error) = IsPlanRefusal plan error × (error ≢ plans.Memory)
-IsNoLot how out plan (Make Workers) = IsHow how → ⊥
-IsNoLot how out plan (Make error) = OfPlan plan (λ text. (fault : EngineError Error) × (error ≡ of_engine_error fault)
+-- why workers that may hash a lot of the plan, which is to go to this file if there is one, do not: it is no plan; a
+-- fault of one of its files; the file that the lot is to go to is one of them, or the system does not tell of one; or
+-- that file cannot be written
+abbrev pub IsNoLotOf : Option (List ℕ) → List ℕ → Fault → Type 0
+IsNoLotOf out plan (Plan error) = IsPlanRefusal plan error × (error ≢ plans.Memory)
+IsNoLotOf out plan (Make error) = OfPlan plan (λ text. (fault : EngineError Error) × (error ≡ of_engine_error fault)
     × IsGivenOwn (system_answers (length text.list.files)) (lengths_of text.list.files) fault)
-IsNoLot how out plan (Scan System) = Unit {0}
-IsNoLot how out plan OutAmongFiles = IsSome out
-IsNoLot how out plan (Write written) = (written ≡ 0) × IsSome out
+IsNoLotOf out plan OutAmongFiles = IsSome out
+IsNoLotOf out plan (Scan System) = IsSome out
+IsNoLotOf out plan (Write written) = (written ≡ 0) × IsSome out
+IsNoLotOf out plan _ = ⊥
+
+-- why there is no lot of the plan: there is no worker or too many, which comes first; or another reason
+abbrev pub IsNoLot : How → Option (List ℕ) → List ℕ → Fault → Type 0
+IsNoLot how out plan (Make Workers) = IsHow how → ⊥
 IsNoLot how out plan Resources = Unit {0}
-IsNoLot how out plan _ = ⊥
+IsNoLot how out plan fault = IsHow how × IsNoLotOf out plan fault
 
 -- the file that the bytes go to, if it is not the writer
 abbrev pub file_of_lot : LotOptions → Option (List ℕ)
@@ -69,17 +73,17 @@ places_of_list place single paths =
 abbrev pub OfNoLot : LotOptions → Fault → Type 0
 OfNoLot options fault = OfSome (λ plan. IsNoLot options.how (file_of_lot options) plan fault)
 
--- what is written of a lot: it, and nothing else (profile)
+-- what is written of a lot by workers that may hash it: it, and nothing else (profile)
 abbrev pub DoesLot : LotOptions → Streams → Type 0
-DoesLot options s = (s.reader' ≡ s.reader) × OfSome (λ plan. (bytes : List ℕ) × IsLotAt options.lot plan bytes
-    × Sends (file_of_lot options) s.writer s.writer' bytes)
+DoesLot options s = IsHow options.how × (s.reader' ≡ s.reader)
+    × OfSome (λ plan. (bytes : List ℕ) × IsLotAt options.lot plan bytes × Sends (file_of_lot options) s.writer s.writer' bytes)
 
 -- if this fault stopped it (profile)
 abbrev pub StopsLot : LotOptions → Streams → Fault → Type 0
-StopsLot options s Read = IsUntouched s
+StopsLot options s (Read fault) = IsUntouched s
 StopsLot options s TooLong = IsUntouched s
 StopsLot options s (Write written) = (OfNoLot options (Write written) × IsUntouched s)
-    ⊎ ((s.reader' ≡ s.reader) × OfSome (λ plan. (bytes : List ℕ)
+    ⊎ (IsHow options.how × (s.reader' ≡ s.reader) × OfSome (λ plan. (bytes : List ℕ)
     × IsLotAt options.lot plan bytes × SendsFront (file_of_lot options) s.writer s.writer' written bytes))
 StopsLot options s fault = OfNoLot options fault × IsUntouched s
 
@@ -139,7 +143,7 @@ StopsJoining options s (Plan error) =
     OfSome (λ plan. IsPlanRefusal plan error) × (error ≢ plans.Memory) × IsUntouched s
 StopsJoining options s (Join error part) = IsNotJoined options error × (error ≢ joins.Memory)
     × (string_bytes part ≡ part_text (words_of_parts options) (number_of_part error)) × IsUntouched s
-StopsJoining options s Read = IsUntouched s
+StopsJoining options s (Read fault) = IsUntouched s
 StopsJoining options s TooLong = IsUntouched s
 StopsJoining options s (Write written) = (s.reader' ≡ s.reader) × ((torrent : List ℕ)
     × IsTorrentOfParts options torrent × SendsFront (file_of_join options) s.writer s.writer' written torrent)

@@ -2,7 +2,7 @@
 use Rattle.std.specs.Prelude.{◌≡◌, ◌⊎◌, List, Option, None}
 use Rattle.std.specs.declared.io.Error.{Error}
 use Rattle.tor_meta.specs.Make.{make_refusal}
-use Rattle.tor_meta.specs.Planned.{IsPlanOfTold}
+use Rattle.tor_meta.specs.Planned.{IsFaultOfLengths, IsPlanOfTold}
 use Rattle.tor_meta.specs.declared.order.Order.{Order}
 use Rattle.tor_source.specs.Answers.{system_answers}
 use Rattle.tor_tree.specs.FileList.{paths_of}
@@ -12,7 +12,7 @@ use Rattle.tor_cli.specs.make.ChosenFiles.{IsChoice, IsNoChoice}
 use Rattle.tor_cli.specs.make.Request.{IsOrderOf, Sends, SendsFront, StopsFinding, file_of, list_of}
 use Rattle.tor_cli.specs.Streams.{Streams}
 use Rattle.tor_cli.specs.declared.fault.Fault.{Fault}
-use Rattle.tor_cli.specs.declared.fault.Fault.TheVariants.{Write}
+use Rattle.tor_cli.specs.declared.fault.Fault.TheVariants.{Make, Write}
 use Rattle.tor_cli.specs.declared.make.options.MakeOptions.{MakeOptions}
 use Rattle.tor_cli.specs.declared.lots.plan_options.PlanOptions.{PlanOptions}
 
@@ -34,13 +34,19 @@ abbrev pub DoesPlan : PlanOptions → Streams → Type 0
 DoesPlan options s = OfChosen options s (λ chosen. (plan : List ℕ) × IsPlanAt options.torrent chosen plan
     × Sends (file_of options.torrent) s.writer s.writer' plan)
 
+-- a plan is made of lengths: no fault of a byte stops it, and no file is seen to change (profile)
+abbrev pub IsOfLengths : Fault → Type 0
+IsOfLengths (Make error) = IsFaultOfLengths error
+IsOfLengths fault = Unit {0}
+
 -- if this fault stopped it once the list was read
 abbrev pub StopsPlanned : PlanOptions → Streams → Fault → Option (List (List (List ℕ))) → Type 0
 StopsPlanned options s (Write written) chosen =
     (StopsFinding options.torrent chosen (Write written) × (s.writer' ≡ s.writer))
     ⊎ ((plan : List ℕ) × IsPlanAt options.torrent chosen plan
     × SendsFront (file_of options.torrent) s.writer s.writer' written plan)
-StopsPlanned options s fault chosen = StopsFinding options.torrent chosen fault × (s.writer' ≡ s.writer)
+StopsPlanned options s fault chosen =
+    StopsFinding options.torrent chosen fault × IsOfLengths fault × (s.writer' ≡ s.writer)
 
 -- if this fault stopped it: it is of the list, or came after it (profile)
 abbrev pub StopsPlanning : PlanOptions → Streams → Fault → Type 0

@@ -49,6 +49,6 @@ AreBadAttrs paths bytes =
 abbrev pub IsNotLettered : Option (List ℕ) → List (List (List ℕ)) → Fault → Type 0
 IsNotLettered place paths Resources = Unit {0}
 IsNotLettered (Some place) paths (Argument Attrs) = OfSome (AreBadAttrs paths)
-IsNotLettered (Some place) paths Read = Unit {0}
+IsNotLettered (Some place) paths (Read fault) = Unit {0}
 IsNotLettered (Some place) paths TooLong = Unit {0}
 IsNotLettered place paths other = ⊥

@@ -60,7 +60,7 @@ IsNoChoice (Some word) reader reader' (Argument Files) =
     OfList word reader reader' (λ bytes. IsNoList bytes texts.Unended)
 IsNoChoice (Some word) reader reader' (Make (makes.List fault)) =
     OfList word reader reader' (λ bytes. AreNoFiles bytes fault)
-IsNoChoice (Some word) reader reader' Read = IsUnread word reader reader' inputs.Read
+IsNoChoice (Some word) reader reader' (Read fault) = IsUnread word reader reader' (inputs.Read fault)
 IsNoChoice (Some word) reader reader' TooLong = IsUnread word reader reader' inputs.TooLong
 IsNoChoice (Some word) reader reader' Resources = Unit {0}
 IsNoChoice (Some word) reader reader' other = ⊥

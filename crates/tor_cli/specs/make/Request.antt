@@ -115,7 +115,7 @@ StopsInput options s OutAmongFiles = ⊥
 StopsInput options s (Argument fault) = FailsAttrs options (Argument fault) s
 StopsInput options s (Make error) = ((order : Order) × (attr : Attr) × IsOrderOfOne options order attr
     × (input_refusal options order ≡ Some error)) × OnlyReads s
-StopsInput options s Read = FailsInput inputs.Read s ⊎ FailsAttrs options Read s
+StopsInput options s (Read fault) = FailsInput (inputs.Read fault) s ⊎ FailsAttrs options (Read fault) s
 StopsInput options s TooLong = FailsInput inputs.TooLong s ⊎ FailsAttrs options TooLong s
 StopsInput options s (Write written) = (order : Order) × (attr : Attr) × IsOrderOfOne options order attr
     × ((content : List ℕ)

@@ -1,8 +1,8 @@
 -- What the program prints of single pieces: the proof of one of a torrent in a file, and whether a proof in a file
 -- holds. No contract says which bytes a file has, so a clause speaks of some bytes: those that the program took for the
 -- file's.
-use Rattle.std.specs.Prelude.{◌≡◌, ◌≤◌, ◌<◌, ℕ, Bool, true, false, List, codes, Some, None}
-use Rattle.std.specs.Prelude.{IsSomeAnd, slice_get}
+use Rattle.std.specs.Prelude.{◌≡◌, ◌≤◌, ◌<◌, ◌↔◌, ℕ, Bool, true, false, List, codes, Option, Some, None}
+use Rattle.std.specs.Prelude.{IsSomeAnd, IsTrue, option_map, slice_get}
 use Rattle.std.specs.Io.KnownBytes.{Appends}
 use Rattle.tor_bencode.specs.Data.{Data}
 use Rattle.tor_bencode.specs.Spelling.{base_ten}
@@ -10,6 +10,7 @@ use Rattle.tor_check.specs.PieceProofs.{IsPieceProof, piece_refusal}
 use Rattle.tor_merkle.specs.Layer.{IsPieceLength}
 use Rattle.tor_merkle.specs.Proof.{is_proof, proof_count, proof_level}
 use Rattle.tor_merkle.specs.declared.TheConstants.{MAX_LENGTH}
+use Rattle.tor_piece.specs.Piece.{IsPiece}
 use Rattle.tor_spec.specs.valid.Conditions.{IsTorrentOf}
 use Rattle.tor_spec.specs.valid.View.{FileView, view_of}
 use Rattle.tor_cli.specs.Foreign.{IsNoTorrent, OfSome}
@@ -62,7 +63,7 @@ StopsProving options s (Refused refusal) =
     OfSome (λ bytes. IsNotProved options.file options.index bytes (Refused refusal)) × IsUntouched s
 StopsProving options s (Piece error) =
     OfSome (λ bytes. IsNotProved options.file options.index bytes (Piece error)) × IsUntouched s
-StopsProving options s Read = IsUntouched s
+StopsProving options s (Read fault) = IsUntouched s
 StopsProving options s TooLong = IsUntouched s
 StopsProving options s (Write written) =
     (s.reader' ≡ s.reader) × ProvesOfSome options (IsFront s.writer s.writer' written)
@@ -115,6 +116,31 @@ IsAnswered claim bytes answer = (index : ℕ) × (hash : List ℕ) × (siblings 
     × IsProof index hash siblings × (proof_text index hash siblings ≡ bytes)
     × (answer ≡ answer_of (holds_in claim index hash siblings))
 
+-- the same, if the bytes of the piece are judged too: yes exactly if the proof holds, and they are as many as the piece
+-- has and have its hash (profile)
+pub record IsAnsweredOf (claim : Claim) (bytes piece : List ℕ) (answer : Answer) : Type 0 where
+  pub index : ℕ
+  pub hash : List ℕ
+  pub siblings : List (List ℕ)
+  pub is : IsProof index hash siblings
+  pub text : proof_text index hash siblings ≡ bytes
+  pub answered : (answer ≡ Yes) ↔ (IsTrue (holds_in claim index hash siblings)
+      × IsPiece claim.length claim.piece_length index hash piece)
+
+-- the answer to the proof that the bytes have, with those of the piece or without them
+abbrev pub IsAnsweredWith : Claim → List ℕ → Option (List ℕ) → Answer → Type 0
+IsAnsweredWith claim bytes None answer = IsAnswered claim bytes answer
+IsAnsweredWith claim bytes (Some piece) answer = IsAnsweredOf claim bytes piece answer
+
+-- some bytes of the piece, if the words name a file that has them
+abbrev pub OfPieceBytes : Option (List ℕ) → (Option (List ℕ) → Type 0) → Type 0
+OfPieceBytes None Holds = Holds None
+OfPieceBytes (Some place) Holds = OfSome (λ piece. Holds (Some piece))
+
+-- the file that has them
+abbrev pub file_of_piece : VerifyOptions → Option (List ℕ)
+file_of_piece options = option_map (λ place. place.now) options.bytes
+
 -- they are the text of none
 abbrev pub IsNoProof : List ℕ → Type 0
 IsNoProof bytes = (index : ℕ) (hash : List ℕ) (siblings : List (List ℕ)) → IsProof index hash siblings
@@ -128,7 +154,8 @@ answer_line No = codes "no\n"
 -- the answer to the proof that some bytes have, by what the words claim; of its line this holds
 abbrev pub AnswersOfSome : VerifyOptions → Answer → (List ℕ → Type 0) → Type 0
 AnswersOfSome options answer Holds = (claim : Claim) × IsClaimIn options claim
-    × OfSome (λ bytes. IsAnswered claim bytes answer) × Holds (answer_line answer)
+    × OfSome (λ bytes. OfPieceBytes (file_of_piece options) (λ piece. IsAnsweredWith claim bytes piece answer))
+    × Holds (answer_line answer)
 
 -- what is written for an answer. It is its line, and nothing else (profile)
 abbrev pub DoesVerify : VerifyOptions → Answer → Streams → Type 0
@@ -142,7 +169,7 @@ IsClaimed options = (claim : Claim) × IsClaimIn options claim
 abbrev pub StopsVerifying : VerifyOptions → Streams → Fault → Type 0
 StopsVerifying options s (Argument arguments.Proof) = IsClaimed options × OfSome IsNoProof × IsUntouched s
 StopsVerifying options s (Argument fault) = IsBadClaim options fault × IsUntouched s
-StopsVerifying options s Read = IsClaimed options × IsUntouched s
+StopsVerifying options s (Read fault) = IsClaimed options × IsUntouched s
 StopsVerifying options s TooLong = IsClaimed options × IsUntouched s
 StopsVerifying options s (Write written) = (s.reader' ≡ s.reader)
     × ((answer : Answer) × AnswersOfSome options answer (IsFront s.writer s.writer' written))

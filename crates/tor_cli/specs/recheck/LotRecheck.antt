@@ -8,7 +8,7 @@ use Rattle.serde_json.specs.Data.{Members, member, no_members, object, string}
 use Rattle.tor_check.specs.Valid.{IsTold}
 use Rattle.tor_meta.specs.FromInput.{IsFront}
 use Rattle.tor_recheck.specs.Bitfield.{bitfield, set_count}
-use Rattle.tor_recheck.specs.Lots.{first_of_lot}
+use Rattle.tor_recheck.specs.Lots.{IsOfLot, first_of_lot}
 use Rattle.tor_report.specs.Records.{count_data, record_line}
 use Rattle.tor_spec.specs.valid.View.{View}
 use Rattle.tor_sums.specs.How.{IsHow}
@@ -57,6 +57,11 @@ pub record IsLotRechecked (options : LotRecheckOptions) (bytes text : List ℕ) 
   pub printed : text ≡ lot_text options.form (first_piece options.lot view) bits
   pub answered : answer ≡ recheck_answer bits
 
+-- a fault of the lot's recheck names no file but those that have bytes in its pieces (profile)
+abbrev pub IsFaultOfLot : LotNumber → List ℕ → Fault → Type 0
+IsFaultOfLot lot bytes (Recheck error) = (view : View) × IsTold bytes view × IsOfLot view lot.lots lot.number error
+IsFaultOfLot lot bytes fault = Unit {0}
+
 -- the lot of a torrent was rechecked, with this answer; of the text this holds
 abbrev pub RechecksLot : LotRecheckOptions → Answer → (List ℕ → Type 0) → Type 0
 RechecksLot options answer Holds =
@@ -73,8 +78,9 @@ StopsLotRecheck options s (Refused refusal) =
 StopsLotRecheck options s (Scan fault) =
     OfSome (λ bytes. IsNotRechecked options.workers bytes (Scan fault)) × IsUntouched s
 StopsLotRecheck options s (Recheck error) =
-    OfSome (λ bytes. IsNotRechecked options.workers bytes (Recheck error)) × IsUntouched s
-StopsLotRecheck options s Read = IsUntouched s
+    OfSome (λ bytes. IsNotRechecked options.workers bytes (Recheck error)
+    × IsFaultOfLot options.lot bytes (Recheck error)) × IsUntouched s
+StopsLotRecheck options s (Read fault) = IsUntouched s
 StopsLotRecheck options s TooLong = IsUntouched s
 StopsLotRecheck options s (Write written) = (s.reader' ≡ s.reader)
     × ((answer : Answer) × RechecksLot options answer (IsFront s.writer s.writer' written))

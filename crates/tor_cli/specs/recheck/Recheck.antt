@@ -10,6 +10,7 @@ use Rattle.tor_sums.specs.How.{IsHow}
 use Rattle.tor_sums.specs.declared.how.How.TheVariants.{Board}
 use Rattle.tor_recheck.specs.Bitfield.{bitfield, set_count}
 use Rattle.tor_recheck.specs.Findings.{AreFoundWithin}
+use Rattle.tor_recheck.specs.Readable.{IsNoReadFault}
 use Rattle.tor_recheck.specs.Recheck.{IsGiven}
 use Rattle.tor_recheck.specs.declared.files.FileFound.{FileFound}
 use Rattle.tor_recheck.specs.declared.files.FileState.TheVariants.{Link, Unreadable}
@@ -128,6 +129,11 @@ abbrev pub IsNotRechecked : ℕ → List ℕ → Fault → Type 0
 IsNotRechecked workers bytes (Recheck error) = (view : View) × IsTold bytes view × IsRecheckFault workers view error
 IsNotRechecked workers bytes other = IsNotPlaced bytes other
 
+-- a fault that may stop a recheck that keeps going: it is of no read of a file (profile)
+abbrev pub IsPastReads : Fault → Type 0
+IsPastReads (Recheck error) = IsNoReadFault error
+IsPastReads fault = Unit {0}
+
 -- a torrent was rechecked, with this answer; of the text this holds
 abbrev pub RechecksSome : RecheckOptions → Answer → (List ℕ → Type 0) → Type 0
 RechecksSome options answer Holds =
@@ -144,8 +150,9 @@ StopsRechecking options s (Refused refusal) =
 StopsRechecking options s (Scan fault) =
     OfSome (λ bytes. IsNotRechecked options.workers bytes (Scan fault)) × IsUntouched s
 StopsRechecking options s (Recheck error) =
-    OfSome (λ bytes. IsNotRechecked options.workers bytes (Recheck error)) × IsUntouched s
-StopsRechecking options s Read = IsUntouched s
+    OfSome (λ bytes. IsNotRechecked options.workers bytes (Recheck error))
+    × (options.keeps_going ≡ true → IsNoReadFault error) × IsUntouched s
+StopsRechecking options s (Read fault) = IsUntouched s
 StopsRechecking options s TooLong = IsUntouched s
 StopsRechecking options s (Write written) = (s.reader' ≡ s.reader)
     × ((answer : Answer) × RechecksSome options answer (IsFront s.writer s.writer' written))

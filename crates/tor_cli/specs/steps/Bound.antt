@@ -16,3 +16,9 @@ abbrev pub said_by_plan : List (List ℕ)
 said_by_plan =
     codes "name" ∷ codes "piece-length" ∷ codes "kind" ∷ codes "announce" ∷ codes "private" ∷ codes "tail" ∷ codes "attrs"
     ∷ codes "files-from" ∷ codes "span" ∷ codes "check-after" ∷ []
+
+-- the options that say how pieces are looked for, and what is printed of them
+abbrev pub shut_out_by_extra : List (List ℕ)
+shut_out_by_extra =
+    codes "files" ∷ codes "bad" ∷ codes "keep-going" ∷ codes "no-links" ∷ codes "brief" ∷ codes "part"
+    ∷ codes "workers" ∷ []

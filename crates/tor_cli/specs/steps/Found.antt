@@ -3,10 +3,10 @@ use Rattle.std.specs.Prelude.{codes}
 use Rattle.clap.specs.Words.{subcommand_rows_of}
 use Rattle.clap.specs.declared.parser.matches.ArgMatches.{ArgMatches}
 use Rattle.tor_cli.specs.Words.{AreOptionsIn, HasRows, IsCheckIn, IsMagnetIn, IsPieceIn, IsProofIn, IsRecheckIn}
-use Rattle.tor_cli.specs.Words.{IsEditIn, IsJoinIn, IsLotIn, IsLotRecheckIn, IsPlanIn, IsScanIn}
+use Rattle.tor_cli.specs.Words.{IsEditIn, IsExtraIn, IsJoinIn, IsLotIn, IsLotRecheckIn, IsPlanIn, IsScanIn}
 use Rattle.tor_cli.specs.declared.command.Request.{Request}
 use Rattle.tor_cli.specs.declared.command.Request.TheVariants.{Show, Make, Plan, Lot, Join, Edit, Scan, Check, Magnet}
-use Rattle.tor_cli.specs.declared.command.Request.TheVariants.{Prove, Verify, Recheck, RecheckLot}
+use Rattle.tor_cli.specs.declared.command.Request.TheVariants.{Extra, Prove, Verify, Recheck, RecheckLot}
 
 -- the request is what a parse found
 abbrev pub IsFoundIn : ArgMatches → Request → Type 0
@@ -25,3 +25,4 @@ IsFoundIn matches (Verify options) = HasRows (subcommand_rows_of matches) (codes
 IsFoundIn matches (Recheck options) = HasRows (subcommand_rows_of matches) (codes "recheck") (IsRecheckIn options)
 IsFoundIn matches (RecheckLot options) =
     HasRows (subcommand_rows_of matches) (codes "recheck") (IsLotRecheckIn options)
+IsFoundIn matches (Extra options) = HasRows (subcommand_rows_of matches) (codes "recheck") (IsExtraIn options)

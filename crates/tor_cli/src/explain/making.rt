@@ -102,7 +102,7 @@ fn hashing_reason(
 }
 
 /// The path of a file of this number: of the plan, of the list, or of what stands at the place now.
-fn path_of(
+pub fn path_of(
     system: &HostRuntime,
     request: &Request<'_>,
     file: u64,

@@ -12,6 +12,7 @@ pub fn place_of<'a>(request: &Request<'a>) -> Option<&'a str> {
         Request::Scan(options) => Some(options.place),
         Request::Recheck(options) => Some(options.place),
         Request::RecheckLot(options) => Some(options.place),
+        Request::Extra(options) => Some(options.place),
         _ => None,
     }
 }
@@ -25,6 +26,7 @@ pub fn torrent_of<'a>(request: &Request<'a>) -> Option<&'a str> {
         Request::Prove(options) => Some(options.torrent),
         Request::Recheck(options) => Some(options.torrent),
         Request::RecheckLot(options) => Some(options.torrent),
+        Request::Extra(options) => Some(options.torrent),
         _ => None,
     }
 }
@@ -53,6 +55,14 @@ pub fn input_of<'a>(request: &Request<'a>) -> Option<&'a str> {
         Request::Join(options) => Some(options.plan),
         Request::Verify(options) => Some(options.proof),
         other => torrent_options(other)?.attrs,
+    }
+}
+
+/// The file with the bytes of a piece.
+pub fn piece_of<'a>(request: &Request<'a>) -> Option<&'a str> {
+    match request {
+        Request::Verify(options) => options.bytes,
+        _ => None,
     }
 }
 

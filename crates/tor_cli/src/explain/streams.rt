@@ -1,77 +1,113 @@
 //! Why bytes were not read, or not written.
-ghost use Rattle.std.specs.Prelude.{IfOk, IsTrue, string_bytes};
-ghost use Rattle.tor_explain.specs.Plain.{IsPlainText, begins_plain};
+ghost use Rattle.std.specs.Prelude.{IfOk, string_bytes};
+ghost use Rattle.tor_explain.specs.Plain.{IsPlainText};
 
 use crate::command::Request;
-use crate::explain::sources::{input_of, list_of, out_of, torrent_of};
-use crate::explain::words::{NO_INPUT, NOT_TO_ITS_END};
+use crate::explain::sources::{input_of, list_of, out_of, piece_of, torrent_of};
+use crate::lots::join_words::JoinOptions;
 use crate::unwritten::Unwritten;
 use std::alloc::{AllocError, Global};
 use std::fs::{self, Metadata};
 use std::io::{self, ErrorKind};
 use std::rt::Files;
-use tor_explain::{place_text, plain_text};
+use tor_explain::place_text;
 
-/// Why a file was not read: what the system says of the first that cannot be opened.
-pub fn read_reason(system: &HostRuntime, request: &Request<'_>) -> Result<String, AllocError>
+/// How standard input is called.
+const INPUT: &str = "standard input";
+
+/// Why a file was not read: what the system says of the first that cannot be opened, or said as it was read.
+pub fn read_reason(
+    system: &HostRuntime,
+    request: &Request<'_>,
+    fault: &io::Error,
+) -> Result<String, AllocError>
     ensures { IfOk result (λ text. IsPlainText (string_bytes text)) }
 {
     let alloc = system.alloc();
-    match unread_of(system, request) {
-        Some((place, Some(error))) => {
-            let why = format!(in alloc; "{error}")?;
-            place_text(alloc, place, &why)
-        }
-        Some((place, None)) => place_text(alloc, place, NOT_TO_ITS_END),
-        None => plain_text(alloc, words_of_unread(request)),
+    let files = files_of(request);
+    if let Some((place, error)) = first_unopened(system, &files) {
+        return reason_at(alloc, place, &error);
     }
-}
-
-fn words_of_unread(request: &Request<'_>) -> &'static str
-    ensures { IsTrue (begins_plain result.now) }
-{
     match request {
-        Request::Join(_) => "the plan or a part could not be read to its end",
-        _ => NO_INPUT,
+        Request::Join(options) => join_reason(system, options, fault),
+        request if reads_input(request) => reason_at(alloc, &input_name(alloc, &files)?, fault),
+        _ => reason_at(alloc, last_of(&files).unwrap_or(INPUT), fault),
     }
 }
 
-/// The first file of a request that cannot be opened, and why; else the one that was to be read, if there is one, and
-/// nothing was to be read of standard input.
-fn unread_of<'a>(
+fn join_reason(
     system: &HostRuntime,
-    request: &Request<'a>,
-) -> Option<(&'a str, Option<io::Error>)> {
-    let places = [
+    options: &JoinOptions<'_>,
+    fault: &io::Error,
+) -> Result<String, AllocError>
+    ensures { IfOk result (λ text. IsPlainText (string_bytes text)) }
+{
+    let alloc = system.alloc();
+    match first_part_unopened(system, &options.parts) {
+        Some((place, error)) => reason_at(alloc, place, &error),
+        None => reason_at(alloc, "the plan or a part", fault),
+    }
+}
+
+fn reason_at(alloc: Global, place: &str, fault: &io::Error) -> Result<String, AllocError>
+    ensures { IfOk result (λ text. IsPlainText (string_bytes text)) }
+{
+    let why = format!(in alloc; "{fault}")?;
+    place_text(alloc, place, &why)
+}
+
+/// The files that a request reads whole: the torrent, the plan or the letters or the proof, the list, the piece.
+fn files_of<'a>(request: &Request<'a>) -> [Option<&'a str>; 4] {
+    [
         torrent_of(request),
         input_of(request),
         file_list_of(request),
-    ];
-    let mut last = None;
-    'places: for place in places {
-        let Some(place) = place else {
-            continue 'places;
-        };
-        if let Some(error) = fault_at(system, place) {
-            return Some((place, Some(error)));
-        }
-        last = Some((place, None));
-    }
-    match request {
-        Request::Join(options) => unread_part(system, &options.parts),
-        request if reads_input(request) => None,
-        _ => last,
+        piece_of(request),
+    ]
+}
+
+/// What was being read of standard input, or of the last of these files.
+fn input_name(alloc: Global, files: &[Option<&str>]) -> Result<String, AllocError> {
+    match last_of(files) {
+        Some(place) => format!(in alloc; "{INPUT}, or {place}"),
+        None => String::from_str(alloc, INPUT),
     }
 }
 
+fn last_of<'a>(files: &[Option<&'a str>]) -> Option<&'a str> {
+    let mut last = None;
+    'files: for file in files {
+        if file.is_some() {
+            last = *file;
+        }
+    }
+    last
+}
+
+/// The first of these files that cannot be opened, and why.
+fn first_unopened<'a>(
+    system: &HostRuntime,
+    files: &[Option<&'a str>],
+) -> Option<(&'a str, io::Error)> {
+    'files: for file in files {
+        let Some(place) = file else {
+            continue 'files;
+        };
+        if let Some(error) = fault_at(system, place) {
+            return Some((*place, error));
+        }
+    }
+    None
+}
+
 /// The first part that cannot be opened, and why.
-fn unread_part<'a>(
+fn first_part_unopened<'a>(
     system: &HostRuntime,
     parts: &[&'a str],
-) -> Option<(&'a str, Option<io::Error>)> {
+) -> Option<(&'a str, io::Error)> {
     'parts: for part in parts {
         if let Some(error) = fault_at(system, part) {
-            return Some((*part, Some(error)));
+            return Some((*part, error));
         }
     }
     None
@@ -121,10 +157,7 @@ pub fn write_reason(
 {
     let place = out_of(request).unwrap_or("standard output");
     match stop.reason() {
-        Some(error) => {
-            let why = format!(in alloc; "{error}")?;
-            place_text(alloc, place, &why)
-        }
+        Some(error) => reason_at(alloc, place, error),
         None => place_text(alloc, place, "it takes no more bytes"),
     }
 }

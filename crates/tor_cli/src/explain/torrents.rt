@@ -4,6 +4,7 @@ ghost use Rattle.tor_explain.specs.Plain.{IsPlainText};
 
 use crate::command::Request;
 use crate::explain::again::{bytes_at, path_in, torrent_at};
+use crate::explain::making;
 use crate::explain::sources::torrent_of;
 use crate::explain::words::{CHANGED, WORKERS};
 use std::alloc::{AllocError, Global};
@@ -88,13 +89,14 @@ pub fn file_reason(
     }
 }
 
+// The path of a file of this number: of the torrent, or of what a torrent was made of.
 fn path_of(
     system: &HostRuntime,
     request: &Request<'_>,
     file: u64,
 ) -> Result<Option<FilePath>, AllocError> {
     let Some(place) = torrent_of(request) else {
-        return Ok(None);
+        return making::path_of(system, request, file);
     };
     match torrent_at(system, place) {
         Some(torrent) => path_in(system, &torrent, file),

@@ -21,7 +21,7 @@ pub fn whereabouts_reason(
     ensures { IfOk result (λ reason. IfSome reason (λ text. IsPlainText (string_bytes text))) }
 {
     match request {
-        Request::Recheck(_) | Request::RecheckLot(_) => {}
+        Request::Recheck(_) | Request::RecheckLot(_) | Request::Extra(_) => {}
         _ => return Ok(None),
     }
     let (Some(file), Some(place)) = (torrent_of(request), place_of(request)) else {

@@ -28,10 +28,6 @@ pub const NO_FILE: &str = "it has no file of the torrent";
 
 pub const FILE_ABOVE: &str = "it has no file of the torrent, and the folder above it has";
 
-pub const NOT_TO_ITS_END: &str = "it could not be read to its end";
-
-pub const NO_INPUT: &str = "standard input could not be read to its end";
-
 /// Why no torrent is made, if the code tells no more.
 pub fn words_of_make(error: &MakeError<io::Error>) -> &'static str
     ensures { IsTrue (begins_plain result.now) }

@@ -2,6 +2,7 @@
 ghost use Rattle.std.specs.Prelude.{◌≡◌, ◌<◌, ◌⊎◌, ℕ, List, Option, IfErr, IfOk, OnOk, length};
 ghost use Rattle.tor_cli.specs.lots.Lots.{DoesLot, IsLotAt, IsNoLot, StopsLot, file_of_lot, places_of_list};
 ghost use Rattle.tor_cli.specs.steps.Writing.{writing};
+ghost use Rattle.tor_sums.specs.How.{IsHow};
 ghost use Rattle.tor_tree.specs.FileList.{paths_of};
 
 use crate::fault::Fault;
@@ -9,7 +10,7 @@ use crate::foreign::read_file;
 use crate::lots::lot_words::LotOptions;
 use crate::make::out_file::{refuse_out_among_files, refuse_unwritable};
 use crate::progress::{Counting, Progress, erase};
-use crate::whole_file::{send_whole, whole_file};
+use crate::whole_file::{refuse_unmakeable, send_whole, whole_file};
 use std::alloc::AllocError;
 use std::io::Write;
 use std::thread::Threads;
@@ -46,18 +47,36 @@ fn lot_of_plan<T: Threads + Sync>(
     options: &LotOptions<'_>,
     shows_progress: bool,
 ) -> Result<Vec<u8>, Fault>
+    ensures allowed { OnOk result (IsHow options.now.how) }
+    ensures made { IfOk result (λ bytes. IsLotAt options.now.lot plan.now bytes.items) }
+    ensures some { IfOk result (λ bytes. 0 < length bytes.items) }
+    ensures stopped { IfErr result (IsNoLot options.now.how (file_of_lot options.now) plan.now) }
+{
+    if !options.how.is_allowed() {
+        return Err(Fault::Make(MakeError::Workers));
+    }
+    lot_by_workers(rt, system, plan, options, shows_progress)
+}
+
+/// The bytes of the lot, hashed by workers that may.
+fn lot_by_workers<T: Threads + Sync>(
+    rt: &T,
+    system: &HostRuntime,
+    plan: &[u8],
+    options: &LotOptions<'_>,
+    shows_progress: bool,
+) -> Result<Vec<u8>, Fault>
+    requires allowed { IsHow options.now.how }
     ensures made { IfOk result (λ bytes. IsLotAt options.now.lot plan.now bytes.items) }
     ensures some { IfOk result (λ bytes. 0 < length bytes.items) }
     ensures stopped { IfErr result (IsNoLot options.now.how (file_of_lot options.now) plan.now) }
 {
     let alloc = system.alloc();
-    if !options.how.is_allowed() {
-        return Err(Fault::Make(MakeError::Workers));
-    }
     let listing = read_plan(alloc, plan)?;
     let source = source_of(system, options.place, &listing)?;
     refuse_out_among_files(system, options.out, &source)?;
     refuse_unwritable(system, options.out)?;
+    refuse_unmakeable(system, options.out)?;
     let progress = Progress::shown(system, listing.list().files().len(), shows_progress);
     let counting = Counting {
         source: &source,

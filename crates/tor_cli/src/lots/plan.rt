@@ -2,7 +2,7 @@
 ghost use Rattle.std.specs.Prelude.{◌<◌, IfErr, IfOk, IfSome, OnOk, length, option_map};
 ghost use Rattle.std.specs.List.Sorted.{IsStrictlySortedBy};
 ghost use Rattle.tor_tree.specs.Path.{path_cmp};
-ghost use Rattle.tor_cli.specs.lots.Planning.{DoesPlan, IsPlanAt, StopsPlanning};
+ghost use Rattle.tor_cli.specs.lots.Planning.{DoesPlan, IsOfLengths, IsPlanAt, StopsPlanning};
 ghost use Rattle.tor_cli.specs.make.Request.{StopsFinding};
 ghost use Rattle.tor_cli.specs.Streams.{streams};
 
@@ -45,6 +45,7 @@ fn plan_at(
         (λ plan. IsPlanAt options.now.torrent (option_map (λ paths. paths.items) chosen) plan.items) }
     ensures some { IfOk result (λ plan. 0 < length plan.items) }
     ensures stopped { IfErr result (StopsFinding options.now.torrent (option_map (λ paths. paths.items) chosen)) }
+    ensures lengths { IfErr result IsOfLengths }
 {
     let (found, order) = files_to_make(system, &options.torrent, options.place, chosen)?;
     Ok(make_plan(system.alloc(), &found.source, &found.files, &order)?)

@@ -6,7 +6,7 @@ ghost use Rattle.tor_cli.specs.declared.fault.Fault.TheVariants.{NotAsMade};
 use crate::fault::Fault;
 use crate::progress::{Counting, Progress, erase};
 use crate::recheck::counts::{PieceCounts, count_pieces};
-use crate::recheck::source::placed_at;
+use crate::recheck::source::{Links, placed_at};
 use std::thread::Threads;
 
 /// Judges the torrent that the bytes are, and looks by so many workers for each piece of it at a place, as `recheck`
@@ -22,7 +22,7 @@ pub fn check_after<T: Threads + Sync>(
     ensures kept { OnOk result (IsAsMade bytes.now) }
     ensures stopped { IfErr result (IsNotAsMade workers bytes.now) }
 {
-    let placed = match placed_at(system, place, bytes, true) {
+    let placed = match placed_at(system, place, bytes, Links::Followed) {
         Ok(placed) => placed,
         Err(fault) => return Err(fault),
     };

@@ -7,6 +7,7 @@ ghost use Rattle.tor_tree.specs.Path.{path_cmp};
 ghost use Rattle.tor_meta.specs.FromInput.{MakesOf, StopsReading};
 ghost use Rattle.tor_tree.specs.Name.{name_fault};
 ghost use Rattle.tor_tree.specs.declared.names.NameError.TheVariants.{Memory};
+ghost use Rattle.tor_cli.specs.lots.Planning.{IsOfLengths};
 ghost use Rattle.tor_cli.specs.make.Attrs.{HaveLetters, IsNotLettered};
 ghost use Rattle.tor_cli.specs.Place.{refusal_by};
 ghost use Rattle.tor_cli.specs.make.Request.{DoesFiles, DoesInput, DoesMake, DoesPlace, IsOrder, IsOrderOf};
@@ -201,6 +202,7 @@ pub(crate) fn files_to_make(
         IsOrderOf options.now (option_map (λ paths. paths.items) chosen) both.1 both.0.files.items) }
     ensures each { IfOk result (λ both. length both.0.source ≡ length both.0.files.items) }
     ensures stopped { IfErr result (StopsFinding options.now (option_map (λ paths. paths.items) chosen)) }
+    ensures lengths { IfErr result IsOfLengths }
 {
     let alloc = system.alloc();
     let name = name_of(alloc, options)?;

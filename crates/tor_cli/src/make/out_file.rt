@@ -57,8 +57,8 @@ pub fn refuse_out_among_files(
     place: Option<&str>,
     source: &FolderSource<HostRuntime>,
 ) -> Result<(), Fault>
-    ensures { IfErr result (λ fault. (fault ≡ Resources) ⊎ (fault ≡ Scan System)
-        ⊎ ((fault ≡ OutAmongFiles) × IsSome (option_map (λ name. name.now) place.entry))) }
+    ensures { IfErr result (λ fault. (fault ≡ Resources)
+        ⊎ (((fault ≡ Scan System) ⊎ (fault ≡ OutAmongFiles)) × IsSome (option_map (λ name. name.now) place.entry))) }
 {
     let Some(place) = place else {
         return Ok(());

@@ -1,6 +1,8 @@
 //! `tor verify`: whether the proof in a file holds.
-ghost use Rattle.std.specs.Prelude.{◌≡◌, ◌≤◌, ℕ, List, Option, IfErr, IfOk};
-ghost use Rattle.tor_cli.specs.proof.Proving.{DoesVerify, IsAnswered, StopsVerifying, answer_line};
+ghost use Rattle.std.specs.Prelude.{◌≡◌, ◌≤◌, ℕ, List, Option, IfErr, IfOk, option_map};
+ghost use Rattle.tor_cli.specs.proof.Proving.{DoesVerify, IsAnswered, IsAnsweredOf, IsAnsweredWith, OfPieceBytes};
+ghost use Rattle.tor_cli.specs.proof.Proving.{StopsVerifying, answer_line, holds_in};
+ghost use Rattle.tor_cli.specs.proof.ProofText.{IsProof, proof_text};
 ghost use Rattle.tor_merkle.specs.Layer.{IsPieceLength};
 ghost use Rattle.tor_merkle.specs.declared.TheConstants.{MAX_LENGTH};
 ghost use Rattle.tor_cli.specs.steps.Answering.{IsNotAnswered};
@@ -14,10 +16,13 @@ use crate::proof::text::read_proof;
 use crate::proof::words::VerifyOptions;
 use std::alloc::Global;
 use std::io::Write;
-use tor_merkle::{proof_count, proof_level};
+use tor_merkle::{Hash, Proof, proof_count, proof_level};
 use tor_meta::write_out;
+use tor_piece::is_piece;
+use tor_source::InputFault;
 
-/// Writes whether the proof in the file holds for what the words claim.
+/// Writes whether the proof in the file holds for what the words claim; and, if they name a file with the bytes of the
+/// piece, whether these are the ones that it is of.
 pub fn verify<W: Write>(
     system: &HostRuntime,
     options: &VerifyOptions<'_>,
@@ -31,7 +36,8 @@ pub fn verify<W: Write>(
     let alloc = system.alloc();
     let claim = claim_of(options)?;
     let bytes = read_file(alloc, system, options.proof)?;
-    let answer = answer_to(alloc, &claim, &bytes)?;
+    let piece = bytes_of_piece(system, options.bytes)?;
+    let answer = answer_with(alloc, &claim, &bytes, &piece)?;
     write_out(out, answer_line(answer).as_bytes())?;
     Ok(answer)
 }
@@ -45,6 +51,57 @@ fn answer_line(answer: Answer) -> &'static str
     }
 }
 
+/// The bytes of the piece, if a file has them.
+fn bytes_of_piece(system: &HostRuntime, place: Option<&str>) -> Result<Option<Vec<u8>>, InputFault>
+    ensures { IfOk result (λ piece. OfPieceBytes (option_map (λ name. name.now) place.entry)
+        (λ told. option_map (λ bytes. bytes.items) piece ≡ told)) }
+{
+    match place {
+        Some(place) => Ok(Some(read_file(system.alloc(), system, place)?)),
+        None => Ok(None),
+    }
+}
+
+/// Whether the proof holds whose text the bytes are, and is of the piece that has these bytes, if they are judged.
+fn answer_with(
+    alloc: Global,
+    claim: &Claim,
+    bytes: &[u8],
+    piece: &Option<Vec<u8>>,
+) -> Result<Answer, Fault>
+    requires allowed { IsPieceLength claim.now.piece_length }
+    requires small { claim.now.length ≤ MAX_LENGTH }
+    ensures answered { IfOk result
+        (IsAnsweredWith claim.now bytes.now (option_map (λ bytes. bytes.items) piece.now)) }
+    ensures stopped { IfErr result (IsNotAnswered bytes.now) }
+{
+    match piece {
+        Some(piece) => answer_of_piece(alloc, claim, bytes, piece),
+        None => answer_to(alloc, claim, bytes),
+    }
+}
+
+/// Whether the proof holds whose text the bytes are, and is of the piece that has the other bytes.
+fn answer_of_piece(
+    alloc: Global,
+    claim: &Claim,
+    bytes: &[u8],
+    piece: &[u8],
+) -> Result<Answer, Fault>
+    requires allowed { IsPieceLength claim.now.piece_length }
+    requires small { claim.now.length ≤ MAX_LENGTH }
+    ensures answered { IfOk result (IsAnsweredOf claim.now bytes.now piece.now) }
+    ensures stopped { IfErr result (IsNotAnswered bytes.now) }
+{
+    let (index, hash, proof) = proof_in(alloc, bytes)?;
+    let has_hash = is_piece(alloc, claim.length, claim.piece_length, index, &hash, piece)?;
+    if has_hash && holds(claim, index, &hash, &proof) {
+        Ok(Answer::Yes)
+    } else {
+        Ok(Answer::No)
+    }
+}
+
 /// Whether the proof holds whose text the bytes are.
 fn answer_to(alloc: Global, claim: &Claim, bytes: &[u8]) -> Result<Answer, Fault>
     requires allowed { IsPieceLength claim.now.piece_length }
@@ -52,16 +109,34 @@ fn answer_to(alloc: Global, claim: &Claim, bytes: &[u8]) -> Result<Answer, Fault
     ensures answered { IfOk result (IsAnswered claim.now bytes.now) }
     ensures stopped { IfErr result (IsNotAnswered bytes.now) }
 {
-    let (index, hash, proof) = match read_proof(alloc, bytes)? {
-        Some(read) => read,
-        None => return Err(Fault::Argument(ArgumentFault::Proof)),
-    };
+    let (index, hash, proof) = proof_in(alloc, bytes)?;
+    if holds(claim, index, &hash, &proof) {
+        Ok(Answer::Yes)
+    } else {
+        Ok(Answer::No)
+    }
+}
+
+/// The proof whose text the bytes are.
+fn proof_in(alloc: Global, bytes: &[u8]) -> Result<(u64, Hash, Proof), Fault>
+    ensures read { IfOk result (λ read. IsProof read.0 read.1 read.2.siblings.items
+        × (proof_text read.0 read.1 read.2.siblings.items ≡ bytes.now)) }
+    ensures stopped { IfErr result (IsNotAnswered bytes.now) }
+{
+    match read_proof(alloc, bytes)? {
+        Some(read) => Ok(read),
+        None => Err(Fault::Argument(ArgumentFault::Proof)),
+    }
+}
+
+/// Whether a proof holds for what is claimed.
+fn holds(claim: &Claim, index: u64, hash: &Hash, proof: &Proof) -> bool
+    requires allowed { IsPieceLength claim.now.piece_length }
+    requires small { claim.now.length ≤ MAX_LENGTH }
+    ensures { result ≡ holds_in claim.now index hash.now proof.now.siblings.items }
+{
     tor_merkle::laws::proofs_are_low();
     let count = proof_count(claim.length, claim.piece_length);
     let level = proof_level(claim.length, claim.piece_length);
-    Ok(if tor_merkle::verify(&claim.root, count, level, index, &hash, &proof) {
-        Answer::Yes
-    } else {
-        Answer::No
-    })
+    tor_merkle::verify(&claim.root, count, level, index, hash, proof)
 }

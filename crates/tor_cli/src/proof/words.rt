@@ -1,8 +1,8 @@
 //! The words of the commands over proofs of pieces: `tor prove FILE FILENUMBER INDEX` and
-//! `tor verify ROOT LENGTH PIECELENGTH PROOF`.
+//! `tor verify ROOT LENGTH PIECELENGTH PROOF [BYTES]`.
 ghost use Rattle.clap.specs.Words.{app_of, found_of, rows_of, rule_of};
-ghost use Rattle.std.specs.Prelude.{◌≡◌, IfOk, IfSome, false};
-ghost use Rattle.tor_cli.specs.CommandLine.{number_of, prove_app, verify_app};
+ghost use Rattle.std.specs.Prelude.{◌≡◌, IfOk, IfSome, codes, false};
+ghost use Rattle.tor_cli.specs.CommandLine.{may_argument, number_of, prove_app, verify_app};
 ghost use Rattle.tor_cli.specs.Words.{IsPieceIn, IsProofIn};
 
 use crate::torrent_words::{argument_of, command_with};
@@ -28,6 +28,8 @@ pub struct VerifyOptions<'a> {
     pub piece_length: &'a str,
     /// The file with the proof.
     pub proof: &'a str,
+    /// The file with the bytes of the piece, if they are judged too.
+    pub bytes: Option<&'a str>,
 }
 
 /// The command `prove`.
@@ -57,8 +59,19 @@ pub fn verify_command<'a>(alloc: Global) -> Result<Command<'a>, AllocError>
         argument_of(alloc, "length", 2, "LENGTH", LENGTH),
         argument_of(alloc, "piece-length", 3, "PIECELENGTH", PIECE_LENGTH),
         argument_of(alloc, "proof", 4, "PROOF", "The file with the proof"),
+        bytes_argument(alloc),
     ]?;
     command_with(alloc, "verify", VERIFIES, words)
+}
+
+fn bytes_argument<'a>(alloc: Global) -> Arg<'a>
+    ensures rule { rule_of result ≡ may_argument (codes "bytes") 5 }
+    ensures local { result.global ≡ false }
+{
+    Arg::new(alloc, "bytes")
+        .index(5)
+        .value_name("BYTES")
+        .help("A file with the bytes of the piece, which are judged too")
 }
 
 const VERIFIES: &str = "Tells whether a proof of a piece holds";
@@ -89,6 +102,7 @@ pub fn verify_options<'a>(matches: &ArgMatches<'a>) -> Option<VerifyOptions<'a>>
         length: matches.get_str("length")?,
         piece_length: matches.get_str("piece-length")?,
         proof: matches.get_str("proof")?,
+        bytes: matches.get_str("bytes"),
     })
 }
 

@@ -1,13 +1,14 @@
 //! `tor recheck`: which pieces of the torrent in a file are there and right.
-ghost use Rattle.std.specs.Prelude.{◌≡◌, ℕ, List, [], Option, IfErr, IfOk, string_bytes, true};
-ghost use Rattle.tor_cli.specs.recheck.Recheck.{DoesRecheck, IsNotRechecked, IsRechecked, StopsRechecking};
+ghost use Rattle.std.specs.Prelude.{◌≡◌, if◌then◌else◌, ℕ, List, [], Option, IfErr, IfOk, string_bytes, true};
+ghost use Rattle.tor_cli.specs.recheck.Recheck.{DoesRecheck, IsNotRechecked, IsPastReads, IsRechecked, StopsRechecking};
+ghost use Rattle.tor_cli.specs.declared.recheck.source.Links.TheVariants.{Followed, Refused};
 ghost use Rattle.tor_cli.specs.steps.Writing.{writing};
 
 use crate::answer::Answer;
 use crate::fault::Fault;
 use crate::foreign::read_file;
 use crate::progress::Progress;
-use crate::recheck::source::placed_at;
+use crate::recheck::source::{Links, placed_at};
 use crate::recheck::text::{Report, report_by};
 use crate::recheck::words::RecheckOptions;
 use std::alloc::{AllocError, Global};
@@ -47,8 +48,10 @@ fn report_at<T: Threads + Sync>(
     ensures rechecked { IfOk result
         (λ report. IsRechecked options.now bytes.now (string_bytes report.text) report.answer) }
     ensures stopped { IfErr result (IsNotRechecked options.now.workers bytes.now) }
+    ensures goes_on { options.now.keeps_going ≡ true → IfErr result IsPastReads }
 {
-    let placed = match placed_at(system, options.place, bytes, options.follows_links) {
+    let looked = links_followed(options.follows_links);
+    let placed = match placed_at(system, options.place, bytes, looked) {
         Ok(placed) => placed,
         Err(fault) => return Err(fault),
     };
@@ -66,6 +69,17 @@ fn report_at<T: Threads + Sync>(
     ) {
         Ok(report) => Ok(report),
         Err(error) => Err(Fault::from(error)),
+    }
+}
+
+/// Which links are followed, as the words say.
+fn links_followed(follows: bool) -> Links
+    ensures { result ≡ (if follows then Followed else Refused) }
+{
+    if follows {
+        Links::Followed
+    } else {
+        Links::Refused
     }
 }
 

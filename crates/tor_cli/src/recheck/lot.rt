@@ -1,10 +1,11 @@
 //! `tor recheck --part K/N`: which pieces of one lot of a torrent are there and right.
-ghost use Rattle.std.specs.Prelude.{◌≡◌, ◌+◌, ◌<◌, ◌^◌, ℕ, List, Option, IfErr, IfOk, length, string_bytes};
+ghost use Rattle.std.specs.Prelude.{◌≡◌, ◌+◌, ◌<◌, ◌^◌, if◌then◌else◌, ℕ, List, Option, IfErr, IfOk, length, string_bytes};
 ghost use Rattle.serde_json.specs.Data.{object};
 ghost use Rattle.serde_json.specs.View.{view};
-ghost use Rattle.tor_cli.specs.recheck.LotRecheck.{DoesLotRecheck, IsLotRechecked, StopsLotRecheck, lot_members};
-ghost use Rattle.tor_cli.specs.recheck.LotRecheck.{lot_text};
+ghost use Rattle.tor_cli.specs.recheck.LotRecheck.{DoesLotRecheck, IsFaultOfLot, IsLotRechecked, StopsLotRecheck};
+ghost use Rattle.tor_cli.specs.recheck.LotRecheck.{lot_members, lot_text};
 ghost use Rattle.tor_cli.specs.recheck.Recheck.{IsNotRechecked, recheck_answer};
+ghost use Rattle.tor_cli.specs.declared.recheck.source.Links.TheVariants.{Followed, RefusedOfLot};
 ghost use Rattle.tor_cli.specs.steps.Writing.{writing};
 
 use crate::answer::Answer;
@@ -15,7 +16,7 @@ use crate::recheck::counts::counts_of;
 use crate::recheck::listing::Form;
 use crate::recheck::lot_words::LotRecheckOptions;
 use crate::recheck::record::bits_value;
-use crate::recheck::source::placed_at;
+use crate::recheck::source::{Links, placed_at};
 use crate::recheck::text::{Report, answer_of, counts_text, text_of};
 use crate::text::json::line_of;
 use crate::workers::board_of;
@@ -57,8 +58,9 @@ fn report_at<T: Threads + Sync>(
     ensures rechecked { IfOk result
         (λ report. IsLotRechecked options.now bytes.now (string_bytes report.text) report.answer) }
     ensures stopped { IfErr result (IsNotRechecked options.now.workers bytes.now) }
+    ensures of_lot { IfErr result (IsFaultOfLot options.now.lot bytes.now) }
 {
-    let placed = match placed_at(system, options.place, bytes, options.follows_links) {
+    let placed = match placed_at(system, options.place, bytes, links_of_lot(options)) {
         Ok(placed) => placed,
         Err(fault) => return Err(fault),
     };
@@ -80,6 +82,17 @@ fn report_at<T: Threads + Sync>(
             Ok(report_of(alloc, options.form, from, &bits)?)
         }
         Err(error) => Err(Fault::from(error)),
+    }
+}
+
+/// Which links are followed, as the words say.
+fn links_of_lot(options: &LotRecheckOptions<'_>) -> Links
+    ensures { result ≡ (if options.now.follows_links then Followed else RefusedOfLot options.now.lot) }
+{
+    if options.follows_links {
+        Links::Followed
+    } else {
+        Links::RefusedOfLot(options.lot)
     }
 }
 

@@ -43,13 +43,16 @@ pub fn part_option<'a>(alloc: Global) -> Result<Arg<'a>, AllocError>
     not_beside(part, &["bad", "keep-going"])
 }
 
-/// What is to be rechecked, of the words; none if they name no lot, or no number of workers.
+/// What is to be rechecked, of the words; none if they name no lot, or no number of workers, or ask for paths.
 pub fn lot_recheck_options<'a, T: Threads>(
     rt: &T,
     matches: &ArgMatches<'a>,
 ) -> Option<LotRecheckOptions<'a>>
     ensures { IfSome result (λ options. IsLotRecheckIn options (rows_of (found_of matches.now))) }
 {
+    if matches.get_flag("null") {
+        return None;
+    }
     Some(LotRecheckOptions {
         torrent: matches.get_str("file")?,
         place: matches.get_str("path")?,

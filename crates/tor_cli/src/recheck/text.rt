@@ -8,7 +8,7 @@ ghost use Rattle.tor_sums.specs.How.{IsHow};
 ghost use Rattle.tor_engine.specs.PieceFault.{lengths_told};
 ghost use Rattle.tor_sums.specs.declared.how.How.TheVariants.{Board};
 ghost use Rattle.tor_recheck.specs.Files.{files_found, held_pieces};
-ghost use Rattle.tor_recheck.specs.Readable.{faults_seen, readable_held, readable_pieces};
+ghost use Rattle.tor_recheck.specs.Readable.{IsNoReadFault, faults_seen, readable_held, readable_pieces};
 ghost use Rattle.tor_engine.specs.Readable.{seen_lengths};
 ghost use Rattle.tor_cli.specs.recheck.FoundFiles.{state_at, with_state};
 ghost use Rattle.tor_cli.specs.declared.recheck.listing.Form.TheVariants.{Json};
@@ -85,6 +85,7 @@ pub fn report_by<S: Source, T: Threads + Sync>(
     ensures refused { (IsHow (Board options.now.workers) → ⊥) → result ≡ Err Workers }
     ensures workers { OnOk result (IsHow (Board options.now.workers)) }
     ensures allowed { IsHow (Board options.now.workers) → IfErr result (λ error. error ≢ Workers) }
+    ensures goes_past { options.now.keeps_going ≡ true → IfErr result IsNoReadFault }
     ensures gave { IfErr result (IsGiven (S.answers source.now) (length judged.now.torrent.files)) }
 {
     if options.keeps_going {
@@ -120,6 +121,7 @@ pub fn readable_report<S: Source, T: Threads + Sync>(
     ensures refused { (IsHow (Board options.now.workers) → ⊥) → result ≡ Err Workers }
     ensures workers { OnOk result (IsHow (Board options.now.workers)) }
     ensures allowed { IsHow (Board options.now.workers) → IfErr result (λ error. error ≢ Workers) }
+    ensures goes_past { IfErr result IsNoReadFault }
     ensures gave { IfErr result (IsGiven (S.answers source.now) (length judged.now.torrent.files)) }
 {
     let torrent = &judged.torrent;

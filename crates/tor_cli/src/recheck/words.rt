@@ -1,17 +1,17 @@
 //! The words of `tor recheck FILE PATH`.
-ghost use Rattle.clap.specs.Words.{app_of, first_of, found_of, rows_of, rule_of};
-ghost use Rattle.std.specs.Prelude.{◌≡◌, ◌∷◌, [], IfOk, IfSome, None, codes, false};
-ghost use Rattle.tor_cli.specs.CommandLine.{flag_bound, recheck_app};
-ghost use Rattle.tor_cli.specs.Words.{IsRecheckIn};
-ghost use Rattle.tor_cli.specs.steps.Bound.{wanted_by};
+ghost use Rattle.clap.specs.Words.{app_of, first_of, found_of, rows_of};
+ghost use Rattle.std.specs.Prelude.{◌≡◌, ◌&&◌, not, Bool, IfOk, IfSome, None, codes, false};
+ghost use Rattle.tor_cli.specs.CommandLine.{recheck_app};
+ghost use Rattle.tor_cli.specs.Words.{IsFlag, IsRecheckIn};
 
+use crate::recheck::extra_words::extra_option;
 use crate::recheck::listing::{Form, Listing, form_of, listing_of};
 use crate::recheck::lot_words::part_option;
 use crate::torrent_words::{
-    argument_of, command_with, flag_beside, flag_of, flag_without, json_option, workers_option,
+    argument_of, command_with, flag_of, flag_without, json_option, workers_option,
 };
 use crate::workers::workers_of;
-use clap::{Arg, ArgMatches, Command};
+use clap::{ArgMatches, Command};
 use std::alloc::{AllocError, Global};
 use std::thread::Threads;
 
@@ -36,20 +36,21 @@ pub struct RecheckOptions<'a> {
 pub fn recheck_command<'a>(alloc: Global) -> Result<Command<'a>, AllocError>
     ensures { IfOk result (λ command. app_of command ≡ recheck_app) }
 {
-    let null = null_option(alloc)?;
     let json = json_option(alloc)?;
     let brief = flag_without(alloc, "brief", "json", BRIEF)?;
     let part = part_option(alloc)?;
+    let extra = extra_option(alloc)?;
     let words = vec![in alloc;
         flag_of(alloc, "files", FILES),
         flag_of(alloc, "bad", BAD),
-        null,
+        flag_of(alloc, "null", NULL),
         json,
         workers_option(alloc, DEFAULT_WORKERS, WORKERS),
         flag_of(alloc, "keep-going", KEEP_GOING),
         flag_of(alloc, "no-links", NO_LINKS),
         brief,
         part,
+        extra,
         argument_of(alloc, "file", 1, "FILE", "The file with the torrent"),
         argument_of(alloc, "path", 2, "PATH", PATH),
     ]?;
@@ -58,19 +59,12 @@ pub fn recheck_command<'a>(alloc: Global) -> Result<Command<'a>, AllocError>
 
 const ABOUT: &str = "Tells which pieces of a torrent are there and right";
 
-fn null_option<'a>(alloc: Global) -> Result<Arg<'a>, AllocError>
-    ensures rule { IfOk result (λ flag. rule_of flag ≡ flag_bound (codes "null")) }
-    ensures local { IfOk result (λ flag. flag.global ≡ false) }
-    ensures other { IfOk result (λ flag. wanted_by flag ≡ codes "bad" ∷ []) }
-{
-    flag_beside(alloc, "null", "bad", NULL)
-}
-
 const FILES: &str = "Tells of each file too: whether it is whole, bad, short or missing";
 
 const BAD: &str = "Tells of each file that is not whole";
 
-const NULL: &str = "With --bad, prints the paths of these files alone, each ended by a zero byte";
+const NULL: &str =
+    "With --bad or --extra, prints the paths of these files alone, each ended by a zero byte";
 
 const DEFAULT_WORKERS: &str = "4";
 
@@ -90,20 +84,30 @@ pub fn recheck_options<'a, T: Threads>(
     rt: &T,
     matches: &ArgMatches<'a>,
 ) -> Option<RecheckOptions<'a>>
-    requires { first_of (codes "part") (rows_of (found_of matches.now)) ≡ None }
+    requires whole { first_of (codes "part") (rows_of (found_of matches.now)) ≡ None }
+    requires pieces { (given : Bool) → IsFlag (rows_of (found_of matches.now)) (codes "extra") given →
+        given ≡ false }
     ensures { IfSome result (λ options. IsRecheckIn options (rows_of (found_of matches.now))) }
 {
+    let bad = matches.get_flag("bad");
+    let null = matches.get_flag("null");
+    if stands_alone(null, bad) {
+        return None;
+    }
     Some(RecheckOptions {
         torrent: matches.get_str("file")?,
         place: matches.get_str("path")?,
-        listing: listing_of(
-            matches.get_flag("files"),
-            matches.get_flag("bad"),
-            matches.get_flag("null"),
-        ),
+        listing: listing_of(matches.get_flag("files"), bad, null),
         form: form_of(matches.get_flag("brief"), matches.get_flag("json")),
         workers: workers_of(rt, matches.get_str("workers")?)?,
         keeps_going: matches.get_flag("keep-going"),
         follows_links: !matches.get_flag("no-links"),
     })
+}
+
+/// Whether `--null` is given, and not `--bad`.
+fn stands_alone(null: bool, bad: bool) -> bool
+    ensures { result ≡ (null && not bad) }
+{
+    null && !bad
 }

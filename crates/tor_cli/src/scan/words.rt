@@ -63,7 +63,7 @@ pub fn scan_options<'a>(matches: &ArgMatches<'a>) -> Option<ScanOptions<'a>>
 }
 
 /// What the flags `--null` and `--json` ask for; they do not stand beside each other.
-fn scan_form_of(null: bool, json: bool) -> ScanForm
+pub fn scan_form_of(null: bool, json: bool) -> ScanForm
     ensures { result ≡ scan_form_of null json }
 {
     match (null, json) {

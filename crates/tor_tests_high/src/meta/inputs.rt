@@ -50,12 +50,19 @@ fn are_five_read(alloc: Global) -> bool {
 // Whether six are too many.
 fn are_six_too_many(alloc: Global) -> bool {
     let mut six: &[u8] = b"abcdef";
-    read_limited(alloc, &mut six, 5).err() == Some(InputFault::TooLong)
+    matches!(read_limited(alloc, &mut six, 5), Err(InputFault::TooLong))
 }
 
 fn is_fault_told(alloc: Global) -> bool {
     let mut faulting = Faulting(b"abc");
-    read_limited(alloc, &mut faulting, 5).err() == Some(InputFault::Read)
+    match read_limited(alloc, &mut faulting, 5) {
+        Err(InputFault::Read(fault)) => is_interruption(&fault),
+        _ => false,
+    }
+}
+
+fn is_interruption(fault: &Error) -> bool {
+    matches!(fault.kind(), ErrorKind::Interrupted)
 }
 
 fn is_all_dropped(alloc: Global) -> bool {
@@ -132,16 +139,16 @@ fn is_made_by_streams<T: Threads + Wait + Sync + Send + Clone + Drop + 'static>(
     }
 }
 
-// What a reader that faults is told as where workers are behind it.
-fn fault_behind<T: Threads + Wait + Sync + Send + Clone + Drop + 'static>(
+// Whether a reader's fault is told if workers are behind it.
+fn is_told_behind<T: Threads + Wait + Sync + Send + Clone + Drop + 'static>(
     rt: &T,
     alloc: Global,
-) -> Result<Option<InputFault>, AllocError> {
+) -> Result<bool, AllocError> {
     let order = order(alloc, &(Kind::V2, true, 16384, "a"))?;
     let mut reader = Faulting(b"abc");
     match torrent_by_streams(rt, alloc, &mut reader, &order, Attr::NONE) {
-        Err(FromFault::Input(fault)) => Ok(Some(fault)),
-        _ => Ok(None),
+        Err(FromFault::Input(InputFault::Read(fault))) => Ok(is_interruption(&fault)),
+        _ => Ok(false),
     }
 }
 
@@ -156,5 +163,5 @@ fn makes_one_torrent_however_much_a_read_gives(rt: HostRuntime) {
     for (step, workers) in WAYS {
         assert!(rt; is_made_by_streams(&rt, rt.alloc(), *step, *workers) == Ok(true));
     }
-    assert!(rt; fault_behind(&rt, rt.alloc()) == Ok(Some(InputFault::Read)));
+    assert!(rt; is_told_behind(&rt, rt.alloc()) == Ok(true));
 }

@@ -9,7 +9,7 @@ use Rattle.tor_cli.specs.Words.{Asks, HasCommand, HasRows}
 use Rattle.tor_cli.specs.steps.Found.{IsFoundIn}
 use Rattle.tor_cli.specs.declared.command.Request.{Request}
 use Rattle.tor_cli.specs.declared.command.Request.TheVariants.{Show, Make, Plan, Lot, Join, Edit, Scan, Check, Magnet}
-use Rattle.tor_cli.specs.declared.command.Request.TheVariants.{Prove, Verify, Recheck, RecheckLot}
+use Rattle.tor_cli.specs.declared.command.Request.TheVariants.{Extra, Prove, Verify, Recheck, RecheckLot}
 use Rattle.tor_cli.proofs.command.read_words.Goals as goal
 
 module _ (matches : ArgMatches) (words : List (List ℕ)) (parsers : Parsers)
@@ -32,6 +32,7 @@ module _ (matches : ArgMatches) (words : List (List ℕ)) (parsers : Parsers)
   asked (Verify options) found = has _ _ found
   asked (Recheck options) found = has _ _ found
   asked (RecheckLot options) found = has _ _ found
+  asked (Extra options) found = has _ _ found
 
 pub returns-in-Ok-clause-asked : goal.returns-in-Ok-clause-asked
 returns-in-Ok-clause-asked g c =

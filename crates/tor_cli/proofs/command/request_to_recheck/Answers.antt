@@ -4,7 +4,7 @@ use Rattle.clap.specs.Words.{found_of}
 use Rattle.clap.proofs.WalkLemmas.{first_value-rows}
 use Rattle.tor_cli.proofs.command.request_to_recheck.Goals as goal
 
-pub recheck_options-requires : goal.recheck_options-requires
-recheck_options-requires g c =
+pub request_of_whole-requires-clause-whole : goal.request_of_whole-requires-clause-whole
+request_of_whole-requires-clause-whole g c =
     sym (first_value-rows (found_of c.args.recheck.now) (codes "part")) ∙ sym c.get_str.ensures
     ∙ ap (option_map (λ (s : Bor (List ℕ)). s.now)) c.in-None.is

@@ -107,3 +107,13 @@ returns-in-RecheckLot-clause-done g c =
 pub returns-in-RecheckLot-clause-stopped : goal.returns-in-RecheckLot-clause-stopped
 returns-in-RecheckLot-clause-stopped g c =
     rw c.in-RecheckLot.is (c.recheck_part.ensures.stopped (g.R.Read.remaining c.args.reader.now))
+
+pub returns-in-Extra-clause-done : goal.returns-in-Extra-clause-done
+returns-in-Extra-clause-done g c =
+    rw c.in-Extra.is
+    (is_answered _ _ c.tell_extra.result (λ yes. yes) (λ no. no)
+    (c.tell_extra.ensures.answered (g.R.Read.remaining c.args.reader.now)))
+
+pub returns-in-Extra-clause-stopped : goal.returns-in-Extra-clause-stopped
+returns-in-Extra-clause-stopped g c =
+    rw c.in-Extra.is (c.tell_extra.ensures.stopped (g.R.Read.remaining c.args.reader.now))

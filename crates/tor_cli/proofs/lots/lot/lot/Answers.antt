@@ -24,7 +24,7 @@ returns-in_err-send_whole-clause-stopped g c reader =
     let p =
     err_from_is_err_and c.from_residual-in_err-send_whole.result c.from_residual-in_err-send_whole.ensures.1 in
     rw (p.1, p.2)
-    (inr (refl, (c.deref.result.now, within, (c.in_ok-bytes.bytes.items, c.in_ok-bytes.ensures.made, front))))
+    (inr (c.in_ok-bytes.ensures.allowed, refl, (c.deref.result.now, within, (c.in_ok-bytes.bytes.items, c.in_ok-bytes.ensures.made, front))))
 
 pub returns-in_err-bytes-clause-stopped : goal.returns-in_err-bytes-clause-stopped
 returns-in_err-bytes-clause-stopped g c reader =

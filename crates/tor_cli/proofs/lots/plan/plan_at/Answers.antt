@@ -5,6 +5,7 @@ use Rattle.tor_meta.specs.Make.{IsGivenTo}
 use Rattle.tor_source.specs.Answers.{system_answers}
 use Rattle.tor_tree.specs.declared.attr.Attr.{Attr}
 use Rattle.tor_cli.specs.make.Request.{IsOrderOf}
+use Rattle.tor_cli.proofs.PlanFaults.{error_of_lengths}
 use Rattle.tor_cli.proofs.Sizes.{plan_has_bytes}
 use Rattle.tor_cli.proofs.Stops.{finding_shared}
 use Rattle.tor_cli.proofs.lots.plan.plan_at.Goals as goal
@@ -28,3 +29,9 @@ returns-in_err-make_plan-clause-stopped c =
 pub returns-clause-some : goal.returns-clause-some
 returns-clause-some c =
     subst (λ (t : List ℕ). 0 < length t) (sym c.in_ok-make_plan.ensures.told.planned) (plan_has_bytes _)
+
+pub returns-in_err-make_plan-clause-lengths : goal.returns-in_err-make_plan-clause-lengths
+returns-in_err-make_plan-clause-lengths c =
+    let p =
+    err_from_is_err_and c.from_residual-in_err-make_plan.result c.from_residual-in_err-make_plan.ensures.1 in
+    rw (p.1, p.2) (error_of_lengths c.in_err-make_plan.field-0.0 c.in_err-make_plan.ensures.lengths)

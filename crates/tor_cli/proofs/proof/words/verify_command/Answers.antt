@@ -16,7 +16,7 @@ returns c =
           (
             c.argument_of-4.ensures.rule,
             c.argument_of-4.ensures.local,
-            tt,
+            (c.bytes_argument.ensures.rule, c.bytes_argument.ensures.local, tt),
           ),
         ),
       ),

@@ -1,6 +1,7 @@
 -- What the getters give are the values in the rows.
-use Rattle.std.proofs.Common.{rules, codes}
+use Rattle.std.proofs.Common.{◌∙◌, sym, rules, codes}
 use Rattle.clap.specs.Words.{found_of}
+use Rattle.clap.proofs.WalkLemmas.{first_value-rows}
 use Rattle.tor_cli.proofs.FoundTexts.{found_text}
 use Rattle.tor_cli.proofs.proof.words.verify_options.Goals as goal
 
@@ -19,4 +20,5 @@ returns c =
       proof =
           found_text found (codes "proof") c.get_str-4.result c.in_ok-get_str-4.field-0 c.get_str-4.ensures
           (search rules);
+      bytes = sym (first_value-rows found (codes "bytes")) ∙ sym c.get_str-5.ensures;
     }

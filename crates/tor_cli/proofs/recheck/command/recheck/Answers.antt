@@ -3,6 +3,7 @@ use Rattle.std.proofs.Common.{◌≤◌, arith, length, refl}
 use Rattle.std.proofs.lemmas.Result.{err_from_is_err_and}
 use Rattle.std.specs.Prelude.{string_bytes}
 use Rattle.tor_source.specs.declared.input.TheConstants.{MAX_INPUT_LENGTH}
+use Rattle.tor_cli.proofs.Rechecking.{stops_rechecking}
 use Rattle.tor_cli.proofs.recheck.command.recheck.Goals as goal
 
 pub returns-in_err-write_out-clause-stopped : goal.returns-in_err-write_out-clause-stopped
@@ -19,3 +20,11 @@ returns-in_err-write_out-clause-stopped g c reader =
       refl,
       (report.answer, (c.deref.result.now, within, (string_bytes report.text, rechecked, (short, front)))),
     )
+
+pub returns-in_err-report-clause-stopped : goal.returns-in_err-report-clause-stopped
+returns-in_err-report-clause-stopped g c reader =
+    let within : length c.deref.result.now ≤ MAX_INPUT_LENGTH =
+    omega (arith, c.deref.ensures.len, c.in_ok-bytes.ensures) in
+    let p = err_from_is_err_and c.from_residual-in_err-report.result c.from_residual-in_err-report.ensures.1 in
+    rw (p.1, p.2) (stops_rechecking _ (refl, refl) c.deref.result.now within c.args.options.now
+    c.in_err-report.field-0.0 c.in_err-report.ensures.stopped c.in_err-report.ensures.goes_on)

@@ -3,7 +3,7 @@ use Rattle.std.proofs.Common.{ℕ, length, subst}
 use Rattle.tor_recheck.specs.Recheck.{IsGiven}
 use Rattle.tor_recheck.specs.declared.errors.RecheckError.TheVariants.{Workers}
 use Rattle.tor_source.specs.Answers.{system_answers}
-use Rattle.tor_cli.proofs.Rechecking.{err_is, not_rechecked, places_count, told_of, unplaced}
+use Rattle.tor_cli.proofs.Rechecking.{err_is, not_rechecked, past_reads, places_count, told_of, unplaced, unplaced_past}
 use Rattle.tor_cli.proofs.recheck.command.report_at.Goals as goal
 
 pub returns-in-Err-clause-stopped : goal.returns-in-Err-clause-stopped
@@ -22,3 +22,11 @@ returns-clause-stopped g c =
     c.in-Err-report_by.ensures.gave)
     c.in-Err-report_by.ensures.allowed
     (λ none. err_is error Workers _ c.in-Err-report_by.is (c.report_by.ensures.refused none)))
+
+pub returns-clause-goes_on : goal.returns-clause-goes_on
+returns-clause-goes_on g c = λ kept.
+    rw c.from.ensures (past_reads c.in-Err-report_by.error (c.in-Err-report_by.ensures.goes_past kept))
+
+pub returns-in-Err-clause-goes_on : goal.returns-in-Err-clause-goes_on
+returns-in-Err-clause-goes_on g c = λ kept.
+    unplaced_past c.args.bytes.now c.in-Err.fault c.in-Err.ensures.stopped

@@ -8,7 +8,7 @@ use Rattle.tor_sums.specs.How.{IsHow}
 use Rattle.tor_sums.specs.declared.how.How.{How}
 use Rattle.tor_sums.specs.declared.how.How.TheVariants.{Board}
 use Rattle.tor_cli.specs.recheck.LotRecheck.{lot_text}
-use Rattle.tor_cli.proofs.Rechecking.{err_is, not_rechecked, places_count, told_of, workers_allowed}
+use Rattle.tor_cli.proofs.Rechecking.{err_is, fault_of_lot, not_rechecked, places_count, told_of, unplaced_of_lot, workers_allowed}
 use Rattle.tor_cli.proofs.recheck.lot.report_at.Goals as goal
 
 pub returns-in-Ok-rechecked-clause-rechecked : goal.returns-in-Ok-rechecked-clause-rechecked
@@ -42,3 +42,14 @@ returns-clause-stopped g c =
     (λ is. c.in-Err-rechecked.ensures.allowed (subst (λ (how : How). IsHow how) (sym same) is))
     (λ none. err_is error Workers _ c.in-Err-rechecked.is (c.recheck_lot-rechecked.ensures.workers
     (subst (λ (how : How). IsHow how → ⊥) (sym same) none))))
+
+pub returns-clause-of_lot : goal.returns-clause-of_lot
+returns-clause-of_lot g c =
+    let view = c.in-Ok.placed.judged.torrent in
+    rw c.from.ensures
+    (fault_of_lot c.args.options.now.lot c.args.bytes.now view (told_of c.in-Ok.ensures.told) c.in-Err-rechecked.error
+    c.in-Err-rechecked.ensures.of_lot)
+
+pub returns-in-Err-clause-of_lot : goal.returns-in-Err-clause-of_lot
+returns-in-Err-clause-of_lot g c =
+    unplaced_of_lot c.args.options.now.lot c.args.bytes.now c.in-Err.fault c.in-Err.ensures.stopped

@@ -11,8 +11,8 @@ returns c =
         c.flag_of-2.ensures.rule,
         c.flag_of-2.ensures.local,
         (
-          c.in_ok-null.ensures.rule,
-          c.in_ok-null.ensures.local,
+          c.flag_of-3.ensures.rule,
+          c.flag_of-3.ensures.local,
           (
             c.in_ok-json.ensures.rule,
             c.in_ok-json.ensures.local,
@@ -20,11 +20,11 @@ returns c =
               c.workers_option.ensures.rule,
               c.workers_option.ensures.local,
               (
-                c.flag_of-3.ensures.rule,
-                c.flag_of-3.ensures.local,
+                c.flag_of-4.ensures.rule,
+                c.flag_of-4.ensures.local,
                 (
-                  c.flag_of-4.ensures.rule,
-                  c.flag_of-4.ensures.local,
+                  c.flag_of-5.ensures.rule,
+                  c.flag_of-5.ensures.local,
                   (
                     c.in_ok-brief.ensures.rule,
                     c.in_ok-brief.ensures.local,
@@ -32,12 +32,16 @@ returns c =
                       c.in_ok-part.ensures.rule,
                       c.in_ok-part.ensures.local,
                       (
-                        c.argument_of.ensures.rule,
-                        c.argument_of.ensures.local,
+                        c.in_ok-extra.ensures.rule,
+                        c.in_ok-extra.ensures.local,
                         (
-                          c.argument_of-2.ensures.rule,
-                          c.argument_of-2.ensures.local,
-                          tt,
+                          c.argument_of.ensures.rule,
+                          c.argument_of.ensures.local,
+                          (
+                            c.argument_of-2.ensures.rule,
+                            c.argument_of-2.ensures.local,
+                            tt,
+                          ),
                         ),
                       ),
                     ),

@@ -9,7 +9,7 @@ use Rattle.tor_tree.specs.FileList.{lengths_of}
 use Rattle.tor_cli.specs.Status.{of_make_error}
 use Rattle.tor_cli.specs.lots.Lots.{IsNoLot, file_of_lot}
 use Rattle.tor_cli.proofs.LotFaults.{no_lot, no_plan}
-use Rattle.tor_cli.proofs.lots.lot.lot_of_plan.Goals as goal
+use Rattle.tor_cli.proofs.lots.lot.lot_by_workers.Goals as goal
 
 pub returns-clause-stopped : goal.returns-clause-stopped
 returns-clause-stopped g c =
@@ -19,11 +19,11 @@ returns-clause-stopped g c =
     let out = file_of_lot c.args.options.now in
     let how = c.args.options.now.how in
     subst (IsNoLot how out c.args.plan.now) (sym (c.from-in-Err.ensures ∙ ap of_make_error c.from.ensures))
-    (no_lot how out c.args.plan.now c.in-Err.error
+    (no_lot how out c.args.plan.now c.requires.allowed c.in-Err.error
     (text_of_listing listing, c.in_ok-listing.ensures.told, c.in_ok-listing.ensures.read, gave))
 
 pub returns-in_err-listing-clause-stopped : goal.returns-in_err-listing-clause-stopped
 returns-in_err-listing-clause-stopped g c =
     let p = err_from_is_err_and c.from_residual.result c.from_residual.ensures.1 in
-    rw (p.1, p.2) (no_plan c.args.options.now.how (file_of_lot c.args.options.now) c.args.plan.now c.in_err-listing.field-0.0
+    rw (p.1, p.2) (no_plan c.args.options.now.how (file_of_lot c.args.options.now) c.args.plan.now c.requires.allowed c.in_err-listing.field-0.0
     c.in_err-listing.ensures.refused)
