@@ -279,6 +279,24 @@ def test_of_inputs(program, folder):
     expect_equal('nothing is made', False, (folder / 'o').exists())
 
 
+def test_of_reasons(program, folder):
+    """With `--explain` a second line has the system's reason of a read that failed in the middle, and of what it was."""
+    torrent, files, eio = folder / 'torrent', folder / 'files', 'Input/output error (os error 5)'
+    torrent.write_bytes(ABC)
+    files.mkdir()
+    (files / 'b').write_bytes(b'abc')
+    words = ['check', '--explain', torrent]
+    told, _ = traced(program, words, torrent, ['read:error=EIO:when=2'], folder / 'log')
+    expect_told(['check'], refused(f'read fault\ntor: {torrent}: {eio}', 3), told)
+    words = ['make', '--name', 'a', '--explain']
+    with open(torrent, 'rb') as data:
+        told = told_of_input(program, words, torrent, 'read:error=EIO:when=2', folder / 'log', data)
+    expect_told(words, refused(f'read fault\ntor: standard input: {eio}', 3), told)
+    words = ['make', '--name', 'a', '--workers', '1', '--check-after', '--explain', files]
+    told, _ = traced(program, words, files / 'b', ['pread64:error=EIO:when=2'], folder / 'log')
+    expect_told(['make', '--check-after'], refused(f'C1 Read file 0 at 0\ntor: file 0 is b: {eio}', 3), told)
+
+
 def told_of_input(program, words, place, inject, log, data):
     command = ['strace', '-qq', '-f', '-o', str(log), '-P', str(place), '-e', f'inject={inject}', program]
     done_run = subprocess.run(command + [str(word) for word in words], stdin=data, capture_output=True, check=False)

@@ -211,11 +211,20 @@ def is_passed_over(case, met, came):
     """Whether one question was left without an answer that may be. Where the system does not tell what PATH is, the
     files are looked for below it: of a folder it is asked again what it is, and a file has none below it. Where it does
     not tell which file FILE of --out is, no file is there that could be lost."""
-    if len(met) > 1 or met[0].kind != 's':
+    if len(met) > 1:
+        return False
+    if met[0].kind in 'or' and is_empty_file(met[0].place):
+        return came == case.right
+    if met[0].kind != 's':
         return False
     if met[0].place == str(case.path) and not os.path.isdir(case.path) and came == case.untold:
         return True
     return met[0].place in (str(case.path), str(case.out)) and came == case.right
+
+
+def is_empty_file(place):
+    """Of a file that tells of no byte one is asked for; if it is not read it has none, as the system told."""
+    return os.path.isfile(place) and os.path.getsize(place) == 0
 
 
 def lines_of(case, met):
