@@ -11,7 +11,7 @@ _tor_options() {
         check) echo '--null --json --roots --explain -h --help' ;;
         magnet) echo '--name --trackers --explain -h --help' ;;
         edit) echo '--announce --no-announce --out --explain -h --help' ;;
-        recheck) echo '--files --bad --null --json --workers --keep-going --no-links --brief --part --explain -h --help' ;;
+        recheck) echo '--files --bad --null --json --workers --keep-going --no-links --brief --part --extra --explain -h --help' ;;
         prove | verify) echo '--explain -h --help' ;;
         *) echo '-h --help' ;;
     esac
@@ -32,7 +32,7 @@ _tor_value() {
 # Whether a file goes to this place, from 1, behind a command.
 _tor_takes_file() {
     case $1-$2 in
-        make-1 | plan-1 | join-* | scan-1 | check-1 | magnet-1 | edit-1 | prove-1 | recheck-1 | recheck-2 | verify-4) return 0 ;;
+        make-1 | plan-1 | join-* | scan-1 | check-1 | magnet-1 | edit-1 | prove-1 | recheck-1 | recheck-2 | verify-4 | verify-5) return 0 ;;
         *) return 1 ;;
     esac
 }

@@ -70,10 +70,11 @@ complete -c tor -n '__fish_seen_subcommand_from edit' -l no-announce -d 'the tor
 complete -c tor -n '__fish_seen_subcommand_from edit' -l out -r -F -d 'the file that the torrent goes to'
 complete -c tor -n '__fish_seen_subcommand_from recheck' -l files -d 'tell of each file'
 complete -c tor -n '__fish_seen_subcommand_from recheck' -l bad -d 'tell of each file that is not whole'
-complete -c tor -n '__fish_seen_subcommand_from recheck' -l null -d 'with --bad, paths alone, each ended by a zero byte'
+complete -c tor -n '__fish_seen_subcommand_from recheck' -l null -d 'with --bad or --extra, paths alone, each ended by a zero byte'
 complete -c tor -n '__fish_seen_subcommand_from recheck' -l json -d 'one object of JSON'
 complete -c tor -n '__fish_seen_subcommand_from recheck' -l brief -d 'leave out the line of bits'
 complete -c tor -n '__fish_seen_subcommand_from recheck' -l part -x -d 'the pieces of one part of so many, as 0/16'
+complete -c tor -n '__fish_seen_subcommand_from recheck' -l extra -d 'tell the files that the torrent does not have'
 complete -c tor -n '__fish_seen_subcommand_from recheck' -l keep-going -d 'go on past what cannot be read'
 complete -c tor -n '__fish_seen_subcommand_from recheck' -l no-links -d 'follow no link below PATH'
 complete -c tor -n '__fish_seen_subcommand_from recheck' -l workers -x -a auto -d 'how many workers hash'
@@ -85,4 +86,4 @@ complete -c tor -n '__tor_at magnet 2' -F
 complete -c tor -n '__fish_seen_subcommand_from edit' -F
 complete -c tor -n '__tor_at prove 2' -F
 complete -c tor -n '__tor_at recheck 2 3' -F
-complete -c tor -n '__tor_at verify 5' -F
+complete -c tor -n '__tor_at verify 5 6' -F
