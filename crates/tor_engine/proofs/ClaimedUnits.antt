@@ -13,7 +13,7 @@ use Rattle.tor_source.specs.Source.{SourceFacts}
 use Rattle.tor_sums.specs.Fault.{IsFault}
 use Rattle.tor_sums.specs.declared.errors.EngineError.{EngineError}
 use Rattle.tor_engine.specs.declared.failure.UnitFailure.{UnitFailure}
-use Rattle.tor_engine.specs.declared.shares.Share.{Share}
+use Rattle.tor_engine.specs.declared.worker_share.Share.{Share}
 use Rattle.tor_sums.specs.declared.owing.OwingSums.{OwingSums}
 use Rattle.tor_sums.specs.steps.Each.{SumUpEach}
 use Rattle.tor_engine.specs.steps.Taken.{GivesUnit, HasGiven, IsAny, IsIdle, IsOfGiven, IsSumOf, TakesUnits}

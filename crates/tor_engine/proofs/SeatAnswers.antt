@@ -15,7 +15,7 @@ use Rattle.tor_sums.specs.declared.errors.EngineError.TheVariants.{Resources}
 use Rattle.tor_engine.specs.declared.failure.Failure.{Failure}
 use Rattle.tor_engine.specs.declared.failure.Failure.TheVariants.{AtUnit, Memory}
 use Rattle.tor_engine.specs.declared.failure.UnitFailure.{UnitFailure}
-use Rattle.tor_engine.specs.declared.shares.Share.{Share}
+use Rattle.tor_engine.specs.declared.worker_share.Share.{Share}
 use Rattle.tor_engine.specs.steps.Failing.{AreJoined, both_of, error_of, least_of}
 use Rattle.tor_engine.specs.steps.Taken.{AnswersSeat, AreOfGiven, HasGiven, IsLeastFailure, IsSumOf, TakesUnits}
 use Rattle.tor_engine.specs.steps.Taken.{unit_at, without_tops}

@@ -4,8 +4,8 @@ ghost use Rattle.std.specs.Thread.{IsSend, IsSync};
 
 use std::thread::{Threads, join};
 
-/// Work that one worker does, or two do of which each has a half: `SeatShare` (`seats.rt`), a seat at a board, from
-/// which all units are claimed; `UnitShare` (`turn.rt`), units that are dealt out beforehand.
+/// Work that one worker does, or two do of which each has a half: `SharedSeat` (`shared_seat.rt`), a seat at a board,
+/// from which all units are claimed; `UnitShare` (`turn.rt`), units that are dealt out beforehand.
 pub(crate) trait Divisible: Send + Drop {
     type Answer: Send + Drop;
 
@@ -13,7 +13,7 @@ pub(crate) trait Divisible: Send + Drop {
     ghost may_answer: { Self → Type 0 };
 
     /// The work may answer this.
-    ghost answers: { Self → Self.Answer → Type 0 };
+    ghost is_answer: { Self → Self.Answer → Type 0 };
 
     /// The work is cut into these two.
     ghost halves: { Self → Self → Self → Type 0 };
@@ -27,14 +27,14 @@ pub(crate) trait Divisible: Send + Drop {
     /// Does the work.
     fn answer(self) -> Self::Answer
         requires { may_answer self }
-        ensures { answers self result };
+        ensures { is_answer self result };
 
     /// The answer of the whole, from those of its halves.
     fn join(one: Self::Answer, other: Self::Answer) -> Self::Answer
         requires { (whole : Self) × (first : Self) × (second : Self) × halves whole first second
-            × answers first one × answers second other }
-        ensures { (whole first second : Self) → halves whole first second → answers first one →
-            answers second other → answers whole result };
+            × is_answer first one × is_answer second other }
+        ensures { (whole first second : Self) → halves whole first second → is_answer first one →
+            is_answer second other → is_answer whole result };
 }
 
 /// What the work answers, done by so many workers: both halves at once, and each again in halves while there are
@@ -45,7 +45,7 @@ pub(crate) fn by_halves<S: Divisible, R: Threads + Sync>(
     workers: u32,
 ) -> S::Answer
     requires { S.may_answer share }
-    ensures { S.answers share result }
+    ensures { S.is_answer share result }
 {
     if workers < 2 {
         return share.answer();
@@ -59,11 +59,11 @@ pub(crate) fn by_halves<S: Divisible, R: Threads + Sync>(
                 rt,
                 move || -> S::Answer
                     requires { IsSync R.row × IsSend S.row × S.may_answer first }
-                    ensures { S.answers first result }
+                    ensures { S.is_answer first result }
                 { by_halves(rt, first, fewer) },
                 move || -> S::Answer
                     requires { IsSync R.row × IsSend S.row × S.may_answer second }
-                    ensures { S.answers second result }
+                    ensures { S.is_answer second result }
                 { by_halves(rt, second, rest) },
             );
             S::join(one, other)

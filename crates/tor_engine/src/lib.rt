@@ -6,12 +6,12 @@
 //! - [`ask_lengths`] (`lengths.rt`): the lengths of files.
 //! - `units.rt` has the units of a plan hashed by one worker or by several. `halves.rt` shares work among workers,
 //!   whatever work it is. `turn.rt` so deals the units out beforehand, and each worker takes its own one after the
-//!   other; `seats.rt` gives each worker a seat at a board, from which it claims one unit after the other
+//!   other; `shared_seat.rt` gives each worker a seat at a board, from which it claims one unit after the other
 //!   (`taking.rt`), and `on_board.rt` puts what they took in the order of the units.
 //!   `failure.rt` tells which of two faults is answered, `roots.rt` the roots of trees if no board does.
 //!   `unit_work.rt` says what a worker does with a unit; `sum_work.rt` does it for the sums of files, by `sum_unit` of
 //!   `tor_sums`.
-//! - [`work`] (`shares.rt`): one worker at a board, for callers with threads of their own.
+//! - [`work`] (`worker_share.rt`): one worker at a board, for callers with threads of their own.
 //! - [`hash_pieces`] (`pieces.rt`): what each piece hashes to ([`PieceHash`], `piece_hash.rt`), of files that may be
 //!   cut short or missing; [`find_pieces`] tells their lengths too, and [`find_pieces_between`] does so for some units.
 //!   `asked.rt` asks for the lengths, `present.rt` tells what is there by them, and `piece_work.rt` hashes the pieces
@@ -57,15 +57,15 @@ mod read_fault;
 mod readable;
 mod readable_work;
 mod roots;
-mod seats;
 mod seen;
-mod shares;
+mod shared_seat;
 mod sum_work;
 mod taking;
 mod together;
 mod turn;
 mod unit_work;
 mod units;
+mod worker_share;
 
 pub use engine::{hash_all, hash_told};
 pub use lengths::ask_lengths;
@@ -74,9 +74,9 @@ pub use piece_hash::PieceHash;
 pub use pieces::{FoundPieces, find_pieces, find_pieces_between, hash_pieces};
 pub use read_fault::ReadFault;
 pub use readable::{ReadablePieces, find_readable};
-pub use shares::{Share, work};
 pub use tor_lane::{Chunk, Feeder, Taker, lane, lane_law};
 pub use tor_streams::{Gate, MAX_UNIT_LENGTH, hash_input, hash_streams, hash_streams_with};
 pub use tor_sums::{
     ContentHasher, EngineError, Hashed, How, MAX_WORKERS, Sums, UnitSums, unit_length,
 };
+pub use worker_share::{Share, work};

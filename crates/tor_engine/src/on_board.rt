@@ -6,7 +6,7 @@ ghost use Rattle.tor_plan.specs.Forest.{AreRuns};
 ghost use Rattle.tor_sums.specs.steps.Places.{AreNumbers};
 
 use crate::halves::by_halves;
-use crate::seats::SeatShare;
+use crate::shared_seat::SharedSeat;
 use crate::unit_work::UnitWork;
 use std::thread::Threads;
 use tor_board::Board;
@@ -37,7 +37,7 @@ where
     // The seat is halved, and not the units: each worker claims from all of them.
     let seated = by_halves(
         rt,
-        SeatShare {
+        SharedSeat {
             work,
             units,
             board: &board,

@@ -23,7 +23,7 @@ use crate::unit_work::UnitWork;
 use std::alloc::{AllocError, Global};
 use tor_merkle::Hash;
 use tor_plan::{Plan, PlanUnit};
-use tor_sums::{EngineError, FileBytes, Owed, OwingSums, pay, read_tree};
+use tor_sums::{EngineError, FileBytes, Owed, OwingSums, pay, tree_of_unit};
 use tor_v1::laws::length_of_sums;
 
 /// What is known before units are read.
@@ -229,7 +229,7 @@ pub(crate) fn find_piece<S: FileBytes>(
             v1: Some(sum),
             v2: None,
         })),
-        _ => match read_tree(alloc, source, plan, piece, worker) {
+        _ => match tree_of_unit(alloc, source, plan, piece, worker) {
             Ok(tree) => Ok(piece_of_tree(plan, piece, tree)),
             Err(error) => Err(error),
         },

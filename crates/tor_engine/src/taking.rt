@@ -10,8 +10,8 @@ ghost use Rattle.tor_engine.specs.steps.Taken.{GivesUnit, HasBegun, HasRoom, IsA
 ghost use Rattle.tor_engine.specs.steps.Taken.{pair_in, unit_at, units_taken};
 
 use crate::failure::UnitFailure;
-use crate::shares::Share;
 use crate::unit_work::UnitWork;
+use crate::worker_share::Share;
 use std::alloc::AllocError;
 use tor_board::{Board, Job, Seat};
 use tor_plan::PlanUnit;

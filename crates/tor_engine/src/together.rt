@@ -24,7 +24,7 @@ use crate::present::is_there;
 use std::alloc::{AllocError, Global};
 use tor_merkle::{FedTree, Hash};
 use tor_plan::{Plan, PlanUnit};
-use tor_sums::{EngineError, FileBytes, OwingSums, read_tree};
+use tor_sums::{EngineError, FileBytes, OwingSums, tree_of_unit};
 use tor_tree::Kind;
 use tor_v1::laws::length_of_sums;
 
@@ -82,7 +82,7 @@ pub(crate) fn find_together<S: FileBytes>(
     ensures gave { IfErr result (IsGivenRead (S.answers source.now) (lengths_of_sizes known.now.lengths.items)) }
 {
     length_of_sums();
-    let tree = match read_tree(alloc, source, plan, unit, worker) {
+    let tree = match tree_of_unit(alloc, source, plan, unit, worker) {
         Ok(tree) => tree,
         Err(error) => return Err(error),
     };

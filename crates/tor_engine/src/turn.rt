@@ -61,7 +61,7 @@ where
     ghost may_answer = { λ share. W.may_begin share.work.now × All (W.may_hash share.work.now) share.units.now
         × (share.first + length share.units.now < 2 ^ 64) };
 
-    ghost answers = { λ share result.
+    ghost is_answer = { λ share result.
         AnswersUnits (λ units sums. SumUpEach (W.sums_up share.work.now) units sums.items)
         (W.is_steady share.work.now) (W.fault share.work.now) (W.gave share.work.now) share.first share.units.now
         result };

@@ -9,7 +9,7 @@
 //!   of a source and tells them. The sums of a unit's pieces may wait for those of the units after it: a worker owes
 //!   them ([`OwingSums`], `owing.rt`), and pays them when it has no more units ([`pay`],
 //!   [`Owed`], `paying.rt`). Those of units in memory wait in [`OwingPieces`] (`owing_pieces.rt`).
-//! - [`read_tree`] (`unit_hash.rt`) reads a unit and gives its tree, whatever files it is of. `reading.rt` has one
+//! - [`tree_of_unit`] (`unit_tree.rt`) reads a unit and gives its tree, whatever files it is of. `reading.rt` has one
 //!   part read of the source ([`FileBytes`], `file_bytes.rt`), and [`WorkerSums`] (`worker.rt`) holds what was read and
 //!   not hashed (`room.rt`; less for a few pieces, `few_pieces.rt`), and the hashes of what came before.
 //! - [`ContentHasher`] (`hasher.rt`): what a content hashes to, while its bytes come ([`Hashed`]).
@@ -32,8 +32,8 @@ mod reading;
 mod room;
 mod sums;
 mod trees;
-mod unit_hash;
 mod unit_sums;
+mod unit_tree;
 mod worker;
 
 pub use errors::EngineError;
@@ -47,6 +47,6 @@ pub use paying::{Owed, pay};
 pub use places::put_in_order;
 pub use sums::{Sums, sums_of_units, sums_with};
 pub use trees::{FileTrees, Trees, trees_of};
-pub use unit_hash::read_tree;
 pub use unit_sums::{UnitSums, node_over_pieces, sum_unit, unit_length};
+pub use unit_tree::tree_of_unit;
 pub use worker::WorkerSums;

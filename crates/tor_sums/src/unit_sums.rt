@@ -18,7 +18,7 @@ use crate::errors::EngineError;
 use crate::file_bytes::FileBytes;
 use crate::hasher::Hashed;
 use crate::owing::{OwingSums, room_for_sums};
-use crate::unit_hash::read_tree;
+use crate::unit_tree::tree_of_unit;
 use std::alloc::Global;
 use tor_merkle::laws::{count_of_piece_roots, piece_roots_fit_a_layer};
 use tor_merkle::{FedTree, Hash, layer_subtree, piece_level};
@@ -160,7 +160,7 @@ pub fn sum_unit<S: FileBytes>(
     ensures gave { (lengths : List ℕ) → All (IsInFile lengths) unit.now.parts →
         IfErr result (IsGivenRead (S.answers source.now) lengths) }
 {
-    let tree = match read_tree(alloc, source, plan, unit, worker) {
+    let tree = match tree_of_unit(alloc, source, plan, unit, worker) {
         Ok(tree) => tree,
         Err(error) => return Err(error),
     };

@@ -15,7 +15,7 @@ use Rattle.tor_engine.specs.declared.failure.Failure.{Failure}
 use Rattle.tor_engine.specs.declared.failure.Failure.TheVariants.{AtUnit, Memory}
 use Rattle.tor_engine.specs.declared.failure.UnitFailure.{UnitFailure}
 use Rattle.tor_sums.specs.declared.owing.OwingSums.{OwingSums}
-use Rattle.tor_engine.specs.declared.shares.Share.{Share}
+use Rattle.tor_engine.specs.declared.worker_share.Share.{Share}
 use Rattle.tor_engine.specs.steps.Failing.{error_of, stopped_by}
 pub use Rattle.tor_engine.specs.Shares.{given_pairs}
 pub use Rattle.tor_sums.specs.UnitSums.{unit_at}

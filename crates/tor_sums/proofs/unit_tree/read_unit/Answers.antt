@@ -10,7 +10,7 @@ use Rattle.tor_sums.specs.steps.Reads.{ReadsParts}
 use Rattle.tor_sums.proofs.FirstOf.{first_at, first_next, first_of_none}
 use Rattle.tor_sums.proofs.Parts.{one_there}
 use Rattle.tor_sums.proofs.UnitParts.{begun_more, parts_more, parts_none, unit_read}
-use Rattle.tor_sums.proofs.unit_hash.read_unit.Goals as goal
+use Rattle.tor_sums.proofs.unit_tree.read_unit.Goals as goal
 
 pub each-init : goal.each-init
 each-init g c = record {

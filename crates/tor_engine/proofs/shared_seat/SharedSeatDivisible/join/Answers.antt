@@ -5,7 +5,7 @@ use Rattle.tor_board.specs.declared.board.Board.{Board}
 use Rattle.tor_plan.specs.declared.units.PlanUnit.{PlanUnit}
 use Rattle.tor_engine.specs.steps.Taken.{AnswersSeat}
 use Rattle.tor_engine.proofs.SeatAnswers.{seats_answer}
-use Rattle.tor_engine.proofs.seats.SeatShareDivisible.join.Goals as goal
+use Rattle.tor_engine.proofs.shared_seat.SharedSeatDivisible.join.Goals as goal
 
 pub returns : goal.returns
 returns g c = λ whole first second halves one other.

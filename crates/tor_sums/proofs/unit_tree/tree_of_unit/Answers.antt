@@ -1,7 +1,7 @@
 -- what was read is owed
 use Rattle.std.proofs.Common.{◌∙◌, refl, sym}
 use Rattle.tor_sums.specs.steps.Owing.{sums_of}
-use Rattle.tor_sums.proofs.unit_hash.read_tree.Goals as goal
+use Rattle.tor_sums.proofs.unit_tree.tree_of_unit.Goals as goal
 
 pub read_unit-requires-clause-fresh : goal.read_unit-requires-clause-fresh
 read_unit-requires-clause-fresh g c = (c.requires.owing.1.before, c.requires.owing.1.fresh)

@@ -15,7 +15,7 @@ use Rattle.tor_sums.proofs.PlanLevels.{units_to_sum}
 use Rattle.tor_engine.proofs.LotRows.{units_in_files}
 use Rattle.tor_engine.proofs.ReadContents.{plan_there}
 use Rattle.tor_engine.proofs.UnitSummed.{are_unit_sums}
-use Rattle.tor_engine.proofs.shares.work.Goals as goal
+use Rattle.tor_engine.proofs.worker_share.work.Goals as goal
 
 pub take_units-requires-clause-units : goal.take_units-requires-clause-units
 take_units-requires-clause-units g c =

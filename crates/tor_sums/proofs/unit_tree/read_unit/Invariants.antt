@@ -5,7 +5,7 @@ use Rattle.tor_v1.specs.Piece.{zeros}
 use Rattle.tor_sums.specs.Fault.{first_of, part_fault}
 use Rattle.tor_sums.specs.steps.Reads.{HasParts, ReadsParts}
 use Rattle.tor_sums.specs.steps.Worker.{IsFresh}
-use Rattle.tor_sums.proofs.unit_hash.read_unit.Given as goal
+use Rattle.tor_sums.proofs.unit_tree.read_unit.Given as goal
 
 abbrev pub invariant-each : goal.invariant-each
 invariant-each g l = record {

@@ -6,15 +6,15 @@ ghost use Rattle.tor_engine.specs.steps.Taken.{AnswersSeat, IsIdle, without_tops
 
 use crate::failure::{Failure, UnitFailure, both_joined};
 use crate::halves::Divisible;
-use crate::shares::Share;
 use crate::taking::take_units;
 use crate::unit_work::UnitWork;
+use crate::worker_share::Share;
 use tor_board::{Board, Seat};
 use tor_plan::PlanUnit;
 
 /// A seat from which units are claimed, by one worker, or by several of which each has a part of its room.
 #[derive(Drop)]
-pub(crate) struct SeatShare<'a, W> {
+pub(crate) struct SharedSeat<'a, W> {
     pub(crate) work: &'a W,
     pub(crate) units: &'a [PlanUnit],
     pub(crate) board: &'a Board,
@@ -29,7 +29,7 @@ pub(crate) struct Seated<'a, T, F> {
     pub(crate) result: Result<Vec<T>, Failure<F>>,
 }
 
-impl<'a, W: UnitWork + Sync> Divisible for SeatShare<'a, W>
+impl<'a, W: UnitWork + Sync> Divisible for SharedSeat<'a, W>
 where
     W::Sums: Send,
     W::Fault: Send,
@@ -40,7 +40,7 @@ where
         × IsSeatOf share.board.now share.seat × (unit_count share.board.now ≡ length share.units.now)
         × IsIdle (knows share.seat) × ((knows share.seat).given ≡ []) };
 
-    ghost answers = { λ share seated. (seated.board.now ≡ share.board.now) × IsSeatOf share.board.now seated.seat
+    ghost is_answer = { λ share seated. (seated.board.now ≡ share.board.now) × IsSeatOf share.board.now seated.seat
         × AnswersSeat (W.number_in share.work.now) (W.hash_in share.work.now) (W.sums_up share.work.now)
         (W.is_steady share.work.now) (W.fault share.work.now) (W.gave share.work.now) share.units.now
         (knows share.seat) (knows seated.seat) seated.result };
@@ -52,7 +52,7 @@ where
         × ((knows whole.seat).given ≡ []) };
 
     fn halve(self) -> Result<(Self, Self), Self> {
-        let SeatShare {
+        let SharedSeat {
             work,
             units,
             board,
@@ -60,20 +60,20 @@ where
         } = self;
         match board.split(seat) {
             Ok((one, other)) => Ok((
-                SeatShare {
+                SharedSeat {
                     work,
                     units,
                     board,
                     seat: one,
                 },
-                SeatShare {
+                SharedSeat {
                     work,
                     units,
                     board,
                     seat: other,
                 },
             )),
-            Err((seat, _)) => Err(SeatShare {
+            Err((seat, _)) => Err(SharedSeat {
                 work,
                 units,
                 board,
@@ -83,7 +83,7 @@ where
     }
 
     fn answer(self) -> Seated<'a, W::Sums, W::Fault> {
-        let SeatShare {
+        let SharedSeat {
             work,
             units,
             board,

@@ -56,7 +56,7 @@ pub(crate) fn read_unit<S: FileBytes>(
 }
 
 /// Reads one unit, and gives its tree, none in V1. The worker owes it the SHA-1s of its pieces.
-pub fn read_tree<S: FileBytes>(
+pub fn tree_of_unit<S: FileBytes>(
     alloc: Global,
     source: &S,
     plan: &Plan,

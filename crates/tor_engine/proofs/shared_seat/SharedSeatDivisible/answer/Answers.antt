@@ -5,7 +5,7 @@ use Rattle.tor_board.specs.Seats.{knows}
 use Rattle.tor_engine.specs.declared.failure.Failure.{Failure}
 use Rattle.tor_engine.specs.steps.Taken.{AnswersSeat}
 use Rattle.tor_engine.proofs.SeatAnswers.{seat_answers}
-use Rattle.tor_engine.proofs.seats.SeatShareDivisible.answer.Goals as goal
+use Rattle.tor_engine.proofs.shared_seat.SharedSeatDivisible.answer.Goals as goal
 
 pub returns : goal.returns
 returns g c =
