@@ -10,9 +10,9 @@ ghost use Rattle.tor_meta.specs.steps.Sums.{IsJudged, SumUp};
 ghost use Rattle.tor_spec.specs.Metainfo.{metainfo};
 ghost use Rattle.tor_tree.specs.FileList.{lengths_of};
 
+use crate::before_lengths::judge_paths;
 use crate::entries::entries_to_hash;
 use crate::head::Head;
-use crate::judge::judge_paths;
 use crate::refusals::ContentsError;
 use crate::sums::{no_sums, sum_pieces, sum_trees};
 use crate::torrent::torrent_bytes;

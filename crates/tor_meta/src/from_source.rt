@@ -15,9 +15,9 @@ ghost use Rattle.tor_source.specs.Source.{SourceFacts};
 ghost use Rattle.tor_tree.specs.FileList.{paths_of};
 ghost use Rattle.tor_tree.specs.PathList.{AreIndexedPaths, IsPathList, indices_of};
 
+use crate::before_lengths::judge_paths;
 use crate::head::Head;
 use crate::indexed_files::{Indexed, renumbered};
-use crate::judge::judge_paths;
 use crate::listed_files::torrent_of_listed;
 use crate::make_error::MakeError;
 use crate::order::{Order, refusal_of_numbers};

@@ -20,9 +20,9 @@ ghost use Rattle.tor_tree.specs.FileList.{lengths_fault, paths_of};
 ghost use Rattle.tor_tree.specs.PathList.{AreIndexedPaths, IsPathList, with_indices};
 ghost use Rattle.tor_tree.specs.declared.lists.ListError.{ListError};
 
+use crate::before_lengths::{put_in_order, refusal_of_shape};
 use crate::from_source::without_letters;
 use crate::head::Head;
-use crate::judge::{put_in_order, refusal_of_shape};
 use crate::listed_files::torrent_of_sums;
 use crate::make_error::MakeError;
 use crate::order::{Order, refusal_of_numbers};

@@ -1,7 +1,7 @@
 //! Making torrents (BEP 3, BEP 52, BEP 47), and what one shows of them: info hashes and the magnet
 //! link (BEP 9).
 //!
-//! - [`Head`] (`head.rt`): what a torrent is made with, beside its files. `judge.rt` refuses heads and paths.
+//! - [`Head`] (`head.rt`): what a torrent is made with, beside its files. `before_lengths.rt` refuses heads and paths.
 //! - [`make_contents`] (`contents.rt`): the torrent of files whose contents lie in memory.
 //! - [`FedSums`] (`fed.rt`) and [`make_fed`] (`making.rt`): the torrent of one content that is fed in parts.
 //! - [`make_from`], [`torrent_from`] (`from_input.rt`): the torrent of what a reader has, in a writer or as bytes, or
@@ -43,6 +43,7 @@
 //! ```
 #![tactic(auto)]
 
+mod before_lengths;
 mod contents;
 mod entries;
 mod fed;
@@ -58,7 +59,6 @@ mod info;
 mod items;
 mod join_error;
 mod joined;
-mod judge;
 pub mod laws;
 mod layers;
 mod link_words;

@@ -8,8 +8,8 @@ ghost use Rattle.tor_spec.specs.Settings.{is_aligned};
 ghost use Rattle.tor_tree.specs.FileList.{paths_of};
 ghost use Rattle.tor_v1.specs.Reserved.{is_reserved};
 
+use crate::before_lengths::is_name;
 use crate::head::Head;
-use crate::judge::is_name;
 use crate::refusals::ContentsError;
 use tor_merkle::is_piece_length;
 use tor_tree::{FileList, FilePath, MAX_NAMES};

@@ -6,9 +6,9 @@ ghost use Rattle.tor_meta.specs.declared.refusals.ContentsError.{ContentsError};
 ghost use Rattle.tor_meta.specs.steps.ListRefusals.{list_refusal};
 ghost use Rattle.tor_tree.specs.FileList.{IsFileList, lengths_of};
 
+use crate::before_lengths::judge_paths;
 use crate::from_streams::{are_rising, with_lengths};
 use crate::head::Head;
-use crate::judge::judge_paths;
 use crate::listing_error::ListingError;
 use crate::order::is_span;
 use crate::refusals::ContentsError;

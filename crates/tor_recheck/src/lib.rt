@@ -11,7 +11,7 @@
 //! ```
 //!
 //! - [`recheck`] (`rechecking.rt`): a bit for each piece of a torrent, or a [`RecheckError`] (`errors.rt`).
-//!   `merkle_hashes.rt` has the Merkle hashes that the torrent gives, by which `judge.rt` judges those of the files.
+//!   `merkle_hashes.rt` has the Merkle hashes that the torrent gives, by which `piece_bits.rt` judges those of the files.
 //! - [`recheck_files`] (`rechecking_files.rt`): the same bits, and what is told of each file ([`FileFound`],
 //!   [`FileState`]), as [`files_of`] (`files.rt`) tells it by the pieces that hold and by the lengths that are there.
 //!   `spans.rt` has which pieces have bytes of a file.
@@ -29,10 +29,10 @@ mod bits;
 mod errors;
 mod file_pieces;
 mod files;
-mod judge;
 pub mod laws;
 mod merkle_hashes;
 mod own_files;
+mod piece_bits;
 mod rechecking;
 mod rechecking_files;
 mod rechecking_lot;

@@ -17,7 +17,7 @@ ghost use Rattle.tor_v1.specs.Entries.{file_entry};
 
 use crate::bits::Bits;
 use crate::errors::RecheckError;
-use crate::judge::verified_bits;
+use crate::piece_bits::verified_bits;
 use std::alloc::{AllocError, Global};
 use std::thread::Threads;
 use tor_check::{Torrent, ViewFile};

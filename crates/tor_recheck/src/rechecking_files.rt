@@ -15,7 +15,7 @@ ghost use Rattle.tor_spec.specs.Verified.{verified_pieces};
 use crate::bits::Bits;
 use crate::errors::RecheckError;
 use crate::files::{FileFound, files_of};
-use crate::judge::{merkle_verified_bits, verified_bits};
+use crate::piece_bits::{merkle_verified_bits, verified_bits};
 use crate::rechecking::found_in;
 use std::alloc::{AllocError, Global};
 use std::thread::Threads;

@@ -12,8 +12,8 @@ ghost use Rattle.tor_sums.specs.How.{IsHow};
 
 use crate::bits::Bits;
 use crate::errors::RecheckError;
-use crate::judge::verified_bits;
 use crate::own_files::{OwnFiles, own_files};
+use crate::piece_bits::verified_bits;
 use crate::rechecking::plan_of;
 use std::alloc::{AllocError, Global};
 use std::thread::Threads;

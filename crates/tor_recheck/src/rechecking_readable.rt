@@ -17,7 +17,7 @@ ghost use Rattle.tor_recheck.specs.steps.Hashes.{cut_plan};
 ghost use Rattle.tor_source.specs.Source.{SourceFacts};
 
 use crate::errors::RecheckError;
-use crate::judge::verified_bits;
+use crate::piece_bits::verified_bits;
 use crate::rechecking::{SPAN, plan_of};
 use crate::rechecking_files::{Findings, files_by};
 use std::alloc::Global;

@@ -17,7 +17,7 @@ ghost use Rattle.tor_tree.specs.Path.{path_cmp};
 use crate::faults::ScanFault;
 use crate::found::FoundFiles;
 use crate::lazy::{LazyFile, readers_of};
-use crate::listed::{ListedFiles, read_listed};
+use crate::listed_file::{ListedFiles, read_listed};
 use crate::named::find;
 use crate::places::{one_place, places_of};
 use crate::refused::Refused;

@@ -5,7 +5,7 @@ ghost use Rattle.tor_source.specs.Places.{names_bytes, path_bytes, place_below, 
 ghost use Rattle.tor_source.specs.steps.Order.{HasRefused, HasTaken};
 ghost use Rattle.tor_tree.specs.declared.paths.TheConstants.{MAX_NAMES};
 
-use crate::listed::{ListedFile, ListedFiles};
+use crate::listed_file::{ListedFile, ListedFiles};
 use crate::places::{place_below, without_slash};
 use crate::refused::{Refusal, Refused, names_bytes, path_bytes};
 use std::alloc::{AllocError, Global};

@@ -4,7 +4,7 @@ ghost use Rattle.std.specs.Io.{ReadsAtMost};
 ghost use Rattle.std.specs.Io.KnownBytes.{ReadConsumes};
 ghost use Rattle.std.specs.String.{string_bytes};
 
-use crate::listed::{ListedFile, ListedFiles, changed, open_listed};
+use crate::listed_file::{ListedFile, ListedFiles, changed, open_listed};
 use crate::regular;
 use crate::unlinked::Met;
 use std::alloc::{AllocError, Global};

@@ -27,10 +27,10 @@
 //!   buffer filled from a reader, or the [`FillFault`]; [`zeros`] (`buffer.rt`): room to read into.
 //! - [`laws`] (`laws.rt`): laws over the sources in memory, and the limits of an input.
 //!
-//! `walk.rt` finds the files below a folder, `named.rt` those of a list, both into `found.rt`; `listing.rt` reads the
+//! `walk.rt` finds the files below a folder, `named.rt` those of a list, both into `found.rt`; `folder_names.rt` reads the
 //! names in a folder, and `open_folders.rt` holds folders open meanwhile. `unlinked.rt` has a source
 //! that follows no link, and tells how its files stand. `places.rt` joins places and names,
-//! `regular.rt` reads what stands at a place, `listed.rt` a file that has to be as it was listed, and `same_file.rt`
+//! `regular.rt` reads what stands at a place, `listed_file.rt` a file that has to be as it was listed, and `same_file.rt`
 //! tells whether two places have one file.
 #![tactic(auto)]
 
@@ -40,13 +40,13 @@ mod failing;
 mod faults;
 mod filling;
 mod folder;
+mod folder_names;
 mod found;
 mod input;
 mod intake;
 pub mod laws;
 mod lazy;
-mod listed;
-mod listing;
+mod listed_file;
 mod memory;
 mod named;
 mod open_folders;

@@ -6,7 +6,7 @@ ghost use Rattle.tor_source.specs.steps.Named.{HasLookedFor, IsSought};
 
 use crate::faults::{ScanFault, is_absence};
 use crate::found::{FoundFiles, add_file, none_found, refuse_last};
-use crate::listed::ListedFile;
+use crate::listed_file::ListedFile;
 use crate::open_folders::OpenFolders;
 use crate::refused::{Refusal, kind_of};
 use std::alloc::{AllocError, Global};
@@ -20,18 +20,22 @@ const MAX_NAME: usize = 255;
 
 /// The folders that lead to the file that was looked for last, as far as they are known to be folders.
 #[derive(Drop)]
-pub(crate) struct Way<R: Files> {
+pub(crate) struct LeadingFolders<R: Files> {
     names: Vec<Name>,
     open: OpenFolders<R>,
 }
 
-impl<R: Files> Way<R>
+impl<R: Files> LeadingFolders<R>
 where
     R::File: AsRawFd,
 {
     /// At the top folder, before any file is looked for.
-    pub(crate) fn at_top(rt: &R, alloc: Global, root: &str) -> Result<Way<R>, ScanFault> {
-        Ok(Way {
+    pub(crate) fn at_top(
+        rt: &R,
+        alloc: Global,
+        root: &str,
+    ) -> Result<LeadingFolders<R>, ScanFault> {
+        Ok(LeadingFolders {
             names: Vec::new(alloc),
             open: OpenFolders::at_top(rt, alloc, root)?,
         })
@@ -58,9 +62,9 @@ where
     ensures folder { IfOk result (λ found. string_bytes found.folder ≡ without_slash root.now) }
 {
     let mut found = none_found(alloc, root)?;
-    let mut way = Way::at_top(rt, alloc, root)?;
+    let mut leading = LeadingFolders::at_top(rt, alloc, root)?;
     'files: for file in files {
-        let sought = look_for(rt, alloc, &mut way, file.names())?;
+        let sought = look_for(rt, alloc, &mut leading, file.names())?;
         settle(alloc, sought, file, &mut found)?;
     }
     Ok(found)
@@ -88,14 +92,14 @@ fn settle(
 pub(crate) fn look_for<R: Files>(
     rt: &R,
     alloc: Global,
-    way: &mut Way<R>,
+    leading: &mut LeadingFolders<R>,
     names: &[Name],
 ) -> Result<Sought, ScanFault>
 where
     R::File: AsRawFd,
     ensures { IfOk result (IsSought (length names.now)) }
 {
-    match sought_at(rt, alloc, way, names) {
+    match sought_at(rt, alloc, leading, names) {
         Ok(sought) => Ok(sought),
         Err(fault) if matches!(fault.kind(), ErrorKind::OutOfMemory) => Err(ScanFault::Memory),
         Err(fault) if says_missing(names, fault.kind()) => Ok(Sought::NotTaken(Refusal::Missing)),
@@ -115,7 +119,7 @@ fn says_missing(names: &[Name], kind: ErrorKind) -> bool {
 fn sought_at<R: Files>(
     rt: &R,
     alloc: Global,
-    way: &mut Way<R>,
+    leading: &mut LeadingFolders<R>,
     names: &[Name],
 ) -> io::Result<Sought>
 where
@@ -126,13 +130,13 @@ where
         return Ok(Sought::NotTaken(Refusal::TooDeep));
     }
     let (folders, _) = names.split_at(names.len().saturating_sub(1));
-    let known = common(&way.names, folders);
-    way.names.truncate(known);
-    way.open.leave(known);
-    if let Some(refusal) = go_on(rt, alloc, way, folders)? {
+    let known = common(&leading.names, folders);
+    leading.names.truncate(known);
+    leading.open.leave(known);
+    if let Some(refusal) = go_on(rt, alloc, leading, folders)? {
         return Ok(Sought::NotTaken(refusal));
     }
-    let place = way.open.place_of(alloc, names)?;
+    let place = leading.open.place_of(alloc, names)?;
     let metadata = rt.symlink_metadata(&place)?;
     if !metadata.is_file() {
         return Ok(Sought::NotTaken(Refusal::NotRegular(kind_of(&metadata))));
@@ -158,15 +162,15 @@ fn common(one: &[Name], other: &[Name]) -> usize
 fn go_on<R: Files>(
     rt: &R,
     alloc: Global,
-    way: &mut Way<R>,
+    leading: &mut LeadingFolders<R>,
     folders: &[Name],
 ) -> io::Result<Option<Refusal>>
 where
     R::File: AsRawFd,
 {
-    for depth in way.names.len()..folders.len() {
+    for depth in leading.names.len()..folders.len() {
         let (above, _) = folders.split_at(depth + 1);
-        let place = way.open.place_of(alloc, above)?;
+        let place = leading.open.place_of(alloc, above)?;
         let metadata = rt.symlink_metadata(&place)?;
         if metadata.is_file() {
             return Ok(Some(Refusal::Missing));
@@ -174,8 +178,8 @@ where
         if !metadata.is_dir() {
             return Ok(Some(Refusal::NotRegular(kind_of(&metadata))));
         }
-        way.open.go_into(rt, alloc, &place, &metadata)?;
-        way.names.push(folders[depth].copy(alloc)?)?;
+        leading.open.go_into(rt, alloc, &place, &metadata)?;
+        leading.names.push(folders[depth].copy(alloc)?)?;
     }
     Ok(None)
 }

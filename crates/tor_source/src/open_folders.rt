@@ -3,7 +3,7 @@
 ghost use Rattle.std.specs.Prelude.{◌≤◌, vec_len};
 
 use crate::faults::{ScanFault, is_absence};
-use crate::listed::FileNumber;
+use crate::listed_file::FileNumber;
 use crate::places::{place_below, without_slash};
 use std::alloc::{AllocError, Global};
 use std::fs::{self, Metadata, OpenFile};

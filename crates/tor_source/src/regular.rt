@@ -5,7 +5,7 @@ ghost use Rattle.std.specs.Prelude.{◌≡◌, ◌≤◌, false, IfErr, IfOk, If
 ghost use Rattle.tor_source.specs.Faults.{is_absence};
 
 use crate::faults::is_absence_at;
-use crate::listed::untold;
+use crate::listed_file::untold;
 use std::fs::{self, Metadata};
 use std::io;
 use std::os::unix::fs::FileExt;

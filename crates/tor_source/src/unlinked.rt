@@ -8,8 +8,8 @@ ghost use Rattle.tor_source.specs.steps.Met.{met_of_kind, met_of_refusal};
 
 use crate::faults::{ScanFault, is_absence};
 use crate::folder::FolderSource;
-use crate::listed::{FileNumber, ListedFile, read_listed, untold};
-use crate::named::{Sought, Way, look_for};
+use crate::listed_file::{FileNumber, ListedFile, read_listed, untold};
+use crate::named::{LeadingFolders, Sought, look_for};
 use crate::places::places_of;
 use crate::refused::{OtherKind, Refusal};
 use crate::regular::gives_byte;
@@ -164,8 +164,8 @@ where
     if let Some(met) = top_met(rt, root)? {
         return Ok(vec![in alloc; met; files.len()]?);
     }
-    match Way::at_top(rt, alloc, root) {
-        Ok(way) => met_on_way(rt, alloc, way, files, wanted),
+    match LeadingFolders::at_top(rt, alloc, root) {
+        Ok(leading) => met_on_way(rt, alloc, leading, files, wanted),
         Err(ScanFault::Memory) => Err(AllocError),
         Err(_) => Ok(vec![in alloc; Met::Untold(ErrorKind::Other); files.len()]?),
     }
@@ -185,7 +185,7 @@ fn top_met<R: Files>(rt: &R, root: &str) -> Result<Option<Met>, AllocError> {
 fn met_on_way<R: Files>(
     rt: &R,
     alloc: Global,
-    way: Way<R>,
+    leading: LeadingFolders<R>,
     files: &[FilePath],
     wanted: &[bool],
 ) -> Result<Vec<Met>, AllocError>
@@ -193,11 +193,11 @@ where
     R::File: AsRawFd,
     ensures { IfOk result (λ met. vec_len met ≡ length files.now) }
 {
-    let mut way = way;
+    let mut leading = leading;
     let mut met = Vec::with_capacity(alloc, files.len())?;
     'files: for file in files {
         let is_wanted = *wanted.get(met.len()).unwrap_or(&true);
-        met.push(met_if(rt, alloc, &mut way, file, is_wanted)?)?;
+        met.push(met_if(rt, alloc, &mut leading, file, is_wanted)?)?;
     }
     Ok(met)
 }
@@ -206,7 +206,7 @@ where
 fn met_if<R: Files>(
     rt: &R,
     alloc: Global,
-    way: &mut Way<R>,
+    leading: &mut LeadingFolders<R>,
     file: &FilePath,
     is_wanted: bool,
 ) -> Result<Met, AllocError>
@@ -217,7 +217,7 @@ where
     if !is_wanted {
         return Ok(Met::Nothing);
     }
-    match look_for(rt, alloc, way, file.names()) {
+    match look_for(rt, alloc, leading, file.names()) {
         Ok(sought) => Ok(met_of(sought)),
         Err(_) => Err(AllocError),
     }

@@ -10,9 +10,9 @@ ghost use Rattle.tor_tree.specs.declared.names.NameError.TheVariants.{Memory};
 ghost use Rattle.tor_tree.specs.Path.{name_cmp};
 
 use crate::faults::ScanFault;
+use crate::folder_names::rising_names;
 use crate::found::{FoundFiles, add_file, none_found, refuse, refuse_last};
-use crate::listed::ListedFile;
-use crate::listing::rising_names;
+use crate::listed_file::ListedFile;
 use crate::open_folders::OpenFolders;
 use crate::refused::{Refusal, kind_of};
 use std::alloc::{AllocError, Global};

@@ -2,7 +2,7 @@
 use Rattle.tor_recheck.proofs.Names.{[], ◌∷◌, ◌++◌, drop, take, get_or, None, zero-add, ap, ap₂, sym, ◌∙◌}
 use Rattle.tor_recheck.proofs.Names.{map-range_with_len_more, is_found, judged, texts_of}
 use Rattle.tor_recheck.proofs.Sums.{first_sum, later_sums, next_sums}
-use Rattle.tor_recheck.proofs.judge.verified_bits.Goals as goal
+use Rattle.tor_recheck.proofs.piece_bits.verified_bits.Goals as goal
 
 pub pieces-preserved : goal.pieces-preserved
 pieces-preserved c =

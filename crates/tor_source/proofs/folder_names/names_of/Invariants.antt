@@ -2,7 +2,7 @@ use Rattle.std.proofs.Common.{◌≡◌, map}
 use Rattle.std.specs.Prelude.{vec_items}
 use Rattle.std.specs.Io.Iter.{split_byte, split_known_bytes}
 use Rattle.tor_source.proofs.Pieces.{HasRead}
-use Rattle.tor_source.proofs.listing.names_of.Given as goal
+use Rattle.tor_source.proofs.folder_names.names_of.Given as goal
 
 abbrev pub invariant-loop-name : goal.invariant-loop-name
 invariant-loop-name g l =

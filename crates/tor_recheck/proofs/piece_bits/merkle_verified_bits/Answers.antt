@@ -1,7 +1,7 @@
 -- one piece after the other
 use Rattle.tor_recheck.proofs.Names.{[], ◌∷◌, ◌++◌, get_or, None, zero-add, ap, ap₂, sym, ◌∙◌}
 use Rattle.tor_recheck.proofs.Names.{map-range_with_len_more, is_merkle_found, merkle_judged, texts_of}
-use Rattle.tor_recheck.proofs.judge.merkle_verified_bits.Goals as goal
+use Rattle.tor_recheck.proofs.piece_bits.merkle_verified_bits.Goals as goal
 
 pub pieces-preserved : goal.pieces-preserved
 pieces-preserved c =

@@ -4,7 +4,7 @@ use Rattle.std.specs.Io.Iter.{split_byte, split_known_bytes}
 use Rattle.std.proofs.lemmas.List.{map_push}
 use Rattle.tor_source.specs.steps.Listing.{is_listed}
 use Rattle.tor_source.proofs.Pieces.{read_all, read_more, read_none}
-use Rattle.tor_source.proofs.listing.names_of.Goals as goal
+use Rattle.tor_source.proofs.folder_names.names_of.Goals as goal
 
 pub loop-name-init : goal.loop-name-init
 loop-name-init g c =

@@ -4,7 +4,7 @@ use Rattle.std.specs.Cmp.Lexicographic.{on_texts, texts_ties}
 use Rattle.std.proofs.lemmas.List.Filters.{dedup_is}
 use Rattle.std.proofs.lemmas.List.Kept.{IsStrictlySortedBy-dedup}
 use Rattle.tor_source.proofs.SameNames.{all_names, prepended_none}
-use Rattle.tor_source.proofs.listing.rising_names.Goals as goal
+use Rattle.tor_source.proofs.folder_names.rising_names.Goals as goal
 
 pub returns-clause-rising : goal.returns-clause-rising
 returns-clause-rising g c =
