@@ -7,7 +7,7 @@ ghost use Rattle.tor_spec.specs.valid.Conditions.{IsValid};
 
 use crate::outcome::PloverOutcome;
 use crate::report::report;
-use crate::sinks::{Count, Room};
+use crate::sinks::{CallerRoom, Count};
 use crate::{ACCEPTED, NO_ROOM};
 use std::alloc::{AllocError, Global};
 use tor_bencode::ItemRef;
@@ -85,7 +85,7 @@ fn write_object(
         (room.new ≡ object_of root.now judged.now ++ drop (length (object_of root.now judged.now)) room.old) }
     ensures unchanged { OnErr result (room.new ≡ room.old) }
 {
-    let mut out = Room { room, filled: 0 };
+    let mut out = CallerRoom { room, filled: 0 };
     match send_judged(alloc, &mut out, root, judged) {
         Ok(()) => Ok(()),
         Err(ReportFault::Memory) => Err(AllocError),

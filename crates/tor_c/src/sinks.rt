@@ -36,7 +36,7 @@ impl Sink for Count {
 
 /// Room for bytes, which has some in front.
 #[derive(Drop)]
-pub struct Room<'a> {
+pub struct CallerRoom<'a> {
     pub room: &'a mut [u8],
     /// How many.
     pub filled: usize,
@@ -44,7 +44,7 @@ pub struct Room<'a> {
     ghost small: { length room.now < 2 ^ 64 },
 }
 
-impl<'a> Sink for Room<'a> {
+impl<'a> Sink for CallerRoom<'a> {
     ghost use Rattle.tor_c.specs.Sinks.{filled_of, Fills, HasNoRoom, is_within, is_small, room_of};
 
     ghost took = { Fills };
