@@ -17,6 +17,7 @@ use std::sync::Wait;
 use std::thread::Threads;
 use tor_cli::execute::run;
 use tor_cli::fault::Fault;
+use tor_cli::terminal::{TerminalWriter, escapes_for, escapes_of_lines};
 
 fn main(rt: HostRuntime) -> ExitCode {
     let words = match words_of(&rt) {
@@ -28,13 +29,14 @@ fn main(rt: HostRuntime) -> ExitCode {
         Err(error) => return stop(&rt, &Fault::from(error)),
     };
     let shows_progress = rt.stderr().is_terminal();
+    let escapes = escapes_for(&texts, rt.stdout().is_terminal());
     run_over(
         &rt,
         &rt,
         &texts,
         &mut rt.stdin(),
-        &mut rt.stdout(),
-        &mut rt.stderr(),
+        &mut TerminalWriter::new(rt.stdout(), escapes),
+        &mut TerminalWriter::new(rt.stderr(), escapes_of_lines(shows_progress)),
         shows_progress,
     )
 }

@@ -188,9 +188,9 @@ check_app = with_rules (new_app (codes "check")) check_rules
 abbrev pub recheck_rules : List Rule
 recheck_rules =
     flag_of (codes "files") ∷ flag_of (codes "bad") ∷ flag_of (codes "null") ∷ flag_bound (codes "json")
-    ∷ workers_option (codes "4") ∷ flag_of (codes "keep-going") ∷ flag_of (codes "no-links") ∷ flag_bound (codes "brief")
-    ∷ bound (option_of (codes "part")) ∷ flag_bound (codes "extra") ∷ argument_of (codes "file") 1
-    ∷ argument_of (codes "path") 2 ∷ []
+    ∷ workers_option (codes "4") ∷ flag_of (codes "keep-going") ∷ flag_of (codes "no-links")
+    ∷ flag_bound (codes "brief") ∷ bound (option_of (codes "part")) ∷ flag_bound (codes "extra")
+    ∷ argument_of (codes "file") 1 ∷ argument_of (codes "path") 2 ∷ []
 
 abbrev pub recheck_app : App
 recheck_app = with_rules (new_app (codes "recheck")) recheck_rules

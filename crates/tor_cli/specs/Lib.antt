@@ -1,9 +1,11 @@
 pub mod CommandLine
 pub mod Foreign
+pub mod Fronts
 pub mod Place
 pub mod Run
 pub mod Status
 pub mod Streams
+pub mod Terminal
 pub mod Words
 pub mod check
 pub mod edit

@@ -127,7 +127,8 @@ pub record IsPlanIn (options : PlanOptions) (rows : List Row) : Type 0 where
 -- they ask for this lot of this plan, hashed so, of what stands at this place (profile)
 pub record IsLotIn (options : LotOptions) (rows : List Row) : Type 0 where
   pub plan : first_of (codes "plan") rows ≡ Some options.plan.now
-  pub lot : (text : List ℕ) × (first_of (codes "part") rows ≡ Some text) × IsPartWord text options.lot.number options.lot.lots
+  pub lot : (text : List ℕ) × (first_of (codes "part") rows ≡ Some text)
+      × IsPartWord text options.lot.number options.lot.lots
   pub way : first_of (codes "how") rows ≡ Some (way_word (Shared options.how))
   pub workers : IsWorkersIn rows (HasWorkers (Shared options.how))
   pub out : first_of (codes "out") rows ≡ option_map (λ place. place.now) options.out
@@ -237,7 +238,8 @@ pub record IsExtraIn (options : ExtraOptions) (rows : List Row) : Type 0 where
 pub record IsLotRecheckIn (options : LotRecheckOptions) (rows : List Row) : Type 0 where
   pub torrent : first_of (codes "file") rows ≡ Some options.torrent.now
   pub place : first_of (codes "path") rows ≡ Some options.place.now
-  pub lot : (text : List ℕ) × (first_of (codes "part") rows ≡ Some text) × IsPartWord text options.lot.number options.lot.lots
+  pub lot : (text : List ℕ) × (first_of (codes "part") rows ≡ Some text)
+      × IsPartWord text options.lot.number options.lot.lots
   pub form : (brief json : Bool) → IsFlag rows (codes "brief") brief → IsFlag rows (codes "json") json
       → options.form ≡ form_of brief json
   pub workers : IsWorkersIn rows (λ workers. options.workers ≡ workers)

@@ -32,9 +32,9 @@ use std::thread::Threads;
 use tor_meta::write_out;
 
 /// Does what the words ask for; the first word is the program's name. Answers the status: 0 done, 1 refused or answered
-/// by no, 2 usage, 3 a read or write fault, 4 memory or a thread refused. A fault is one line on `err`; on a terminal, or
-/// if it is asked for, a second one says where and why. If `shows_progress`, standard error is a terminal, and shows how
-/// far the reading of PATH is.
+/// by no, 2 usage, 3 a read or write fault, 4 memory or a thread refused. A fault is one line on `err`; on a terminal,
+/// or if it is asked for, a second one says where and why. If `shows_progress`, standard error is a terminal, and shows
+/// how far the reading of PATH is.
 pub fn run<T: Threads + Wait + Sync + Send + Clone + Drop + 'static, R: Read, W: Write, E: Write>(
     rt: &T,
     system: &HostRuntime,

@@ -8,7 +8,7 @@
 //! - `foreign.rt`: the bytes of a file; `whole_file.rt`: a file that appears whole or not at all; `torrent_words.rt`:
 //!   words that several commands have. `answer.rt`: yes and no.
 //! - `progress.rt`: how far the reading is, shown on a terminal.
-//! - `text.rt`: numbers, hashes, JSON and the user's text as texts.
+//! - `text.rt`: numbers, hashes, JSON and the user's text as texts. `terminal.rt`: what a terminal is shown of names.
 //! - `fault.rt`: what stops the program, its line and its status; `fault_of.rt`: which step's fault it is;
 //!   `unwritten.rt`: that not all went out. `laws.rt`: that such a line has no control byte.
 //! - `explain.rt`: why the program stopped, in words.
@@ -31,6 +31,7 @@ pub mod progress;
 pub mod proof;
 pub mod recheck;
 pub mod scan;
+pub mod terminal;
 mod text;
 mod torrent_words;
 pub mod unwritten;

@@ -15,7 +15,7 @@ pub(crate) mod extra;
 mod extra_text;
 pub(crate) mod extra_words;
 mod found_text;
-mod listing;
+pub(crate) mod listing;
 pub(crate) mod lot;
 pub(crate) mod lot_words;
 mod record;

@@ -1,7 +1,7 @@
 //! Texts that several commands read or print.
 //!
-//! - `numbers.rt`, `digits.rt`: numbers and hashes. `fronts.rt`: beginnings of texts. `paths.rt`: paths. `escape.rt`: the user's text in a line. `json.rt`: members of
-//!   objects.
+//! - `numbers.rt`, `digits.rt`: numbers and hashes. `fronts.rt`: beginnings of texts. `paths.rt`: paths. `escape.rt`:
+//!   the user's text in a line. `json.rt`: members of objects.
 
 pub(crate) mod digits;
 pub(crate) mod escape;

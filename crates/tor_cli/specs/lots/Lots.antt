@@ -76,7 +76,8 @@ OfNoLot options fault = OfSome (λ plan. IsNoLot options.how (file_of_lot option
 -- what is written of a lot by workers that may hash it: it, and nothing else (profile)
 abbrev pub DoesLot : LotOptions → Streams → Type 0
 DoesLot options s = IsHow options.how × (s.reader' ≡ s.reader)
-    × OfSome (λ plan. (bytes : List ℕ) × IsLotAt options.lot plan bytes × Sends (file_of_lot options) s.writer s.writer' bytes)
+    × OfSome (λ plan. (bytes : List ℕ) × IsLotAt options.lot plan bytes
+    × Sends (file_of_lot options) s.writer s.writer' bytes)
 
 -- if this fault stopped it (profile)
 abbrev pub StopsLot : LotOptions → Streams → Fault → Type 0

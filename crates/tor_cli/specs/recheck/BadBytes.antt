@@ -12,6 +12,7 @@ HaveBadRanges (file ∷ files) bits [] = Unit {0}
 HaveBadRanges (file ∷ files) bits (one ∷ told) = AreBadRanges file bits one.bad.items × HaveBadRanges files bits told
 
 -- of each file what was found of it, and its bytes in pieces whose bits are not set (profile)
-pub record AreBytesFound (view : View) (bits : List Bool) (found : List FileFound) (told : List BytesFound) : Type 0 where
+pub record AreBytesFound (view : View) (bits : List Bool) (found : List FileFound) (told : List BytesFound)
+    : Type 0 where
   pub files : map (λ one. one.found) told ≡ found
   pub bad : HaveBadRanges (pieced_files view) bits told

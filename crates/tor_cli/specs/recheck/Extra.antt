@@ -24,9 +24,9 @@ use Rattle.tor_cli.specs.declared.recheck.extra_words.ExtraOptions.{ExtraOptions
 use Rattle.tor_cli.specs.declared.scan.words.ScanForm.{ScanForm}
 use Rattle.tor_cli.specs.declared.scan.words.ScanForm.TheVariants.{Lines, Paths, Record}
 
--- these are the paths of some files that were met, which can be taken, and of what no torrent can have for its name, but
--- for those of the torrent's files and for those below `.pad`. They are in the order of their bytes (BEP 47, "padding
--- files"; profile)
+-- these are the paths of some files that were met, which can be taken, and of what no torrent can have for its name,
+-- but for those of the torrent's files and for those below `.pad`. They are in the order of their bytes (BEP 47,
+-- "padding files"; profile)
 pub record AreExtra (view : View) (extra : List (Vec ℕ Global)) : Type 0 where
   pub taken : List (List (List ℕ))
   pub unnameable : List (List ℕ)

@@ -14,8 +14,8 @@ shut_out_by arg = map (λ other. other.now) arg.conflicts.items
 -- the options for what a plan says itself
 abbrev pub said_by_plan : List (List ℕ)
 said_by_plan =
-    codes "name" ∷ codes "piece-length" ∷ codes "kind" ∷ codes "announce" ∷ codes "private" ∷ codes "tail" ∷ codes "attrs"
-    ∷ codes "files-from" ∷ codes "span" ∷ codes "check-after" ∷ []
+    codes "name" ∷ codes "piece-length" ∷ codes "kind" ∷ codes "announce" ∷ codes "private" ∷ codes "tail"
+    ∷ codes "attrs" ∷ codes "files-from" ∷ codes "span" ∷ codes "check-after" ∷ []
 
 -- the options that say how pieces are looked for, and what is printed of them
 abbrev pub shut_out_by_extra : List (List ℕ)

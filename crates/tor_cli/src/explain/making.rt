@@ -8,6 +8,7 @@ use crate::explain::sources::{list_of, place_of};
 use crate::explain::torrents::{file_reason, read_fault_reason};
 use crate::explain::words::{CHANGED, MISSING, SEVERAL_FILES, words_of_make};
 use std::alloc::AllocError;
+use std::fs;
 use std::io;
 use std::rt::Files;
 use tor_engine::EngineError;
@@ -51,11 +52,29 @@ fn refused_at(
 {
     let alloc = system.alloc();
     let Some(found) = inventory_at(system, place, list_of(request)) else {
-        return scan_text(alloc, fault);
+        return unopened_reason(system, place, fault);
     };
     match found.refused.first() {
         Some(refused) => refused_text(alloc, refused),
         None => scan_text(alloc, fault),
+    }
+}
+
+/// Why a place that is there cannot be opened, as with too many files open; else what the fault means.
+fn unopened_reason(
+    system: &HostRuntime,
+    place: &str,
+    fault: &ScanFault,
+) -> Result<String, AllocError>
+    ensures { IfOk result (λ text. IsPlainText (string_bytes text)) }
+{
+    let alloc = system.alloc();
+    match fs::open(system, place) {
+        Ok(_) => scan_text(alloc, fault),
+        Err(error) => {
+            let why = format!(in alloc; "{error}")?;
+            place_text(alloc, place, &why)
+        }
     }
 }
 

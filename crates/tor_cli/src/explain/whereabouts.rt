@@ -1,11 +1,13 @@
-//! What a PATH of a recheck is not.
+//! What a PATH of a recheck is not, and which of its files are behind links.
 ghost use Rattle.std.specs.Prelude.{IfOk, IfSome, string_bytes};
 ghost use Rattle.tor_explain.specs.Plain.{IsPlainText};
 
 use crate::command::Request;
 use crate::explain::again::torrent_at;
 use crate::explain::sources::{place_of, torrent_of};
-use crate::explain::words::{FILE_ABOVE, NO_FILE};
+use crate::explain::words::{BEHIND_LINKS, FILE_ABOVE, NO_FILE};
+use crate::recheck::listing::Listing;
+use crate::recheck::source::paths_of;
 use std::alloc::AllocError;
 use std::rt::Files;
 use tor_check::Torrent;
@@ -14,6 +16,7 @@ use tor_source::{FolderSource, Source};
 
 /// That PATH has no file of the torrent, if it has none, and whether the folder of the torrent's name below it, or the
 /// one above it, has one: the first is a common mistake, since clients ask for the place where that folder stands.
+/// Else, that files are behind links, if bad ones are listed: whoever writes them anew would write through the links.
 pub fn whereabouts_reason(
     system: &HostRuntime,
     request: &Request<'_>,
@@ -27,10 +30,40 @@ pub fn whereabouts_reason(
     let (Some(file), Some(place)) = (torrent_of(request), place_of(request)) else {
         return Ok(None);
     };
-    match torrent_at(system, file) {
-        Some(torrent) => nowhere_reason(system, place, &torrent),
+    let Some(torrent) = torrent_at(system, file) else {
+        return Ok(None);
+    };
+    match nowhere_reason(system, place, &torrent)? {
+        Some(reason) => Ok(Some(reason)),
+        None if follows_to_bad(request) => links_reason(system, place, &torrent),
         None => Ok(None),
     }
+}
+
+/// Whether the files that are not whole are listed, and links followed to them.
+fn follows_to_bad(request: &Request<'_>) -> bool {
+    match request {
+        Request::Recheck(options) => options.follows_links
+            && matches!(options.listing, Listing::BadFiles | Listing::BadPaths),
+        _ => false,
+    }
+}
+
+fn links_reason(
+    system: &HostRuntime,
+    place: &str,
+    torrent: &Torrent,
+) -> Result<Option<String>, AllocError>
+    ensures { IfOk result (λ reason. IfSome reason (λ text. IsPlainText (string_bytes text))) }
+{
+    let alloc = system.alloc();
+    let paths = paths_of(alloc, torrent.files())?;
+    let count = paths.len();
+    let source = FolderSource::at_without_links(system, alloc, place, paths)?;
+    if (0..count).any(|file| source.is_behind_link(file)) {
+        return Ok(Some(place_text(alloc, place, BEHIND_LINKS)?));
+    }
+    Ok(None)
 }
 
 fn nowhere_reason(
@@ -63,10 +96,7 @@ fn has_file(system: &HostRuntime, place: &str, torrent: &Torrent) -> Result<bool
     if torrent.files().len() == 1 && is_file(system, place) {
         return Ok(true);
     }
-    let mut paths = Vec::with_capacity(alloc, torrent.files().len())?;
-    'files: for file in torrent.files() {
-        paths.push(file.file().path.copy(alloc)?)?;
-    }
+    let paths = paths_of(alloc, torrent.files())?;
     let count = paths.len();
     let source = FolderSource::at(system, alloc, place, paths)?;
     // Of what the system does not tell nobody says that it is not there.

@@ -28,6 +28,9 @@ pub const NO_FILE: &str = "it has no file of the torrent";
 
 pub const FILE_ABOVE: &str = "it has no file of the torrent, and the folder above it has";
 
+pub const BEHIND_LINKS: &str =
+    "files of the torrent are behind links: what is written there goes through them; --no-links tells which";
+
 /// Why no torrent is made, if the code tells no more.
 pub fn words_of_make(error: &MakeError<io::Error>) -> &'static str
     ensures { IsTrue (begins_plain result.now) }

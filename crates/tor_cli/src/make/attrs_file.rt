@@ -8,7 +8,7 @@ ghost use Rattle.tor_cli.specs.make.Attrs.{AreAmong, AreLetteredBy, HaveLetters,
 ghost use Rattle.tor_cli.specs.steps.Lettering.{IsNotLetteredBy};
 
 use crate::fault::Fault;
-use crate::foreign::read_file;
+use crate::foreign::read_text;
 use crate::make::attrs_text::read_attrs;
 use crate::proof::claim::ArgumentFault;
 use std::alloc::{AllocError, Global};
@@ -32,7 +32,7 @@ pub fn lettered_files(
         let attrs = Attr::none_each(alloc, &paths)?;
         return Ok(paths_with_attrs(alloc, paths, attrs)?);
     };
-    let bytes = read_file(alloc, system, place)?;
+    let bytes = read_text(alloc, system, place)?;
     lettered_by(alloc, &bytes, paths)
 }
 

@@ -10,7 +10,7 @@ ghost use Rattle.tor_cli.specs.steps.Writing.{writing};
 
 use crate::answer::Answer;
 use crate::fault::Fault;
-use crate::foreign::read_file;
+use crate::foreign::read_front;
 use crate::proof::claim::{ArgumentFault, Claim, claim_of};
 use crate::proof::text::read_proof;
 use crate::proof::words::VerifyOptions;
@@ -20,6 +20,9 @@ use tor_merkle::{Hash, Proof, proof_count, proof_level};
 use tor_meta::write_out;
 use tor_piece::is_piece;
 use tor_source::InputFault;
+
+/// So many bytes of PROOF are held at the most. The longest text of a proof has 2,725.
+const MOST_OF_PROOF: usize = 4096;
 
 /// Writes whether the proof in the file holds for what the words claim; and, if they name a file with the bytes of the
 /// piece, whether these are the ones that it is of.
@@ -35,8 +38,8 @@ pub fn verify<W: Write>(
 {
     let alloc = system.alloc();
     let claim = claim_of(options)?;
-    let bytes = read_file(alloc, system, options.proof)?;
-    let piece = bytes_of_piece(system, options.bytes)?;
+    let bytes = read_front(alloc, system, options.proof, MOST_OF_PROOF)?;
+    let piece = bytes_of_piece(system, options.bytes, claim.piece_length)?;
     let answer = answer_with(alloc, &claim, &bytes, &piece)?;
     write_out(out, answer_line(answer).as_bytes())?;
     Ok(answer)
@@ -51,13 +54,20 @@ fn answer_line(answer: Answer) -> &'static str
     }
 }
 
-/// The bytes of the piece, if a file has them.
-fn bytes_of_piece(system: &HostRuntime, place: Option<&str>) -> Result<Option<Vec<u8>>, InputFault>
+/// The bytes of the piece, if a file has them: of a file with more than a piece has, one more than that.
+fn bytes_of_piece(
+    system: &HostRuntime,
+    place: Option<&str>,
+    piece_length: u64,
+) -> Result<Option<Vec<u8>>, InputFault>
     ensures { IfOk result (λ piece. OfPieceBytes (option_map (λ name. name.now) place.entry)
         (λ told. option_map (λ bytes. bytes.items) piece ≡ told)) }
 {
     match place {
-        Some(place) => Ok(Some(read_file(system.alloc(), system, place)?)),
+        Some(place) => {
+            let most = piece_length.saturating_add(1) as usize;
+            Ok(Some(read_front(system.alloc(), system, place, most)?))
+        }
         None => Ok(None),
     }
 }

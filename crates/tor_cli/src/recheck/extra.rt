@@ -111,8 +111,8 @@ fn is_file(system: &HostRuntime, place: &str) -> bool {
     }
 }
 
-/// Of what was refused, that which has a name or a depth that no file of a torrent has. What is a link, or no file, or a
-/// folder that the system does not list, is none of the files, and may lead to one of them.
+/// Of what was refused, that which has a name or a depth that no file of a torrent has. What is a link, or no file, or
+/// a folder that the system does not list, is none of the files, and may lead to one of them.
 fn unnameable(alloc: Global, refused: Vec<Refused>) -> Result<Vec<Refused>, AllocError> {
     let mut files = Vec::new(alloc);
     'refused: for one in refused {

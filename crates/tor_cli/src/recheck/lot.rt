@@ -27,8 +27,8 @@ use std::thread::Threads;
 use tor_meta::write_out;
 use tor_recheck::{Bits, pieces_of_lot, recheck_lot};
 
-/// Writes which pieces of the lot are there and right; the answer is yes if all are. Nothing is looked for, nor written,
-/// before the torrent was judged, and of the files those alone are that have bytes in these pieces.
+/// Writes which pieces of the lot are there and right; the answer is yes if all are. Nothing is looked for, nor
+/// written, before the torrent was judged, and of the files those alone are that have bytes in these pieces.
 pub fn recheck_part<T: Threads + Sync, W: Write>(
     rt: &T,
     system: &HostRuntime,
