@@ -2,8 +2,9 @@
 //!
 //! - `command.rt`: the command; `words.rt`: its words; `listing.rt`: which files it lists.
 //! - `whereabouts.rt`: where the files of the torrent are looked for; `source.rt`: what stands there.
-//! - `text.rt` has the pieces looked for, and tells what is printed of them, `found_text.rt` what is of the files;
-//!   `record.rt`: both as JSON, with the bytes that do not hold (`bytes_found.rt`).
+//! - `text.rt` has the pieces and the files looked for; `report.rt` writes what is printed of them, `found_text.rt` the
+//!   lines of the files; `record.rt`: both as JSON, with the files that are listed (`listed_records.rt`,
+//!   `found_record.rt`) and their bytes that do not hold (`bytes_found.rt`).
 //! - `extra.rt`: the files that the torrent does not have, and `extra_text.rt` what is printed of them;
 //!   `extra_words.rt`: the words that ask for them.
 //! - `counts.rt`: how many pieces are there and right. `lot.rt`, `lot_words.rt`: those of one lot.
@@ -14,11 +15,14 @@ pub mod counts;
 pub(crate) mod extra;
 mod extra_text;
 pub(crate) mod extra_words;
+mod found_record;
 mod found_text;
+mod listed_records;
 pub(crate) mod listing;
 pub(crate) mod lot;
 pub(crate) mod lot_words;
 mod record;
+mod report;
 pub(crate) mod source;
 mod text;
 mod whereabouts;

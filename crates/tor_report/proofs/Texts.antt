@@ -15,12 +15,12 @@ take_more xs index x within is =
     ap (λ count. take count xs) (sym (next index)) ∙ take-suc xs index x within
     ∙ ap (λ y. take index xs ++ (y ∷ [])) (sym is)
 
-module _ {X : Type 0} (text : X → List ℕ) (xs : List X) (index : ℕ) (x : X) (within : index < length xs)
+module _ {X Y : Type 0} (text : X → List Y) (xs : List X) (index : ℕ) (x : X) (within : index < length xs)
     (is : x ≡ get_or xs index x) where
   -- the text of one more item
   pub flat_more : flat_map text (take index xs) ++ text x ≡ flat_map text (take (index + 1) xs)
   flat_more =
-      ap (λ (ys : List ℕ). flat_map text (take index xs) ++ ys) (sym (append-nil (text x)))
+      ap (λ (ys : List Y). flat_map text (take index xs) ++ ys) (sym (append-nil (text x)))
       ∙ sym (flat_map-append text (take index xs) (x ∷ []))
       ∙ ap (flat_map text) (sym (take_more xs index x within is))
 
@@ -28,12 +28,12 @@ module _ {X : Type 0} (text : X → List ℕ) (xs : List X) (index : ℕ) (x : X
   pub flat_rest : flat_map text (take index xs) ++ (text x ++ flat_map text (drop (index + 1) xs)) ≡ flat_map text xs
   flat_rest =
       sym (append_assoc (flat_map text (take index xs)) (text x) (flat_map text (drop (index + 1) xs)))
-      ∙ ap (λ (ys : List ℕ). ys ++ flat_map text (drop (index + 1) xs)) flat_more
+      ∙ ap (λ (ys : List Y). ys ++ flat_map text (drop (index + 1) xs)) flat_more
       ∙ sym (flat_map-append text (take (index + 1) xs) (drop (index + 1) xs))
       ∙ ap (flat_map text) (take-append-drop (index + 1) xs)
 
 -- of all items
-pub flat_all : {X : Type 0} (text : X → List ℕ) (xs : List X) (index : ℕ) → length xs ≤ index
+pub flat_all : {X Y : Type 0} (text : X → List Y) (xs : List X) (index : ℕ) → length xs ≤ index
     → flat_map text (take index xs) ≡ flat_map text xs
 flat_all text xs index past = ap (flat_map text) (take_all index xs past)
 

@@ -33,7 +33,7 @@ mod spelling;
 pub use buffer::Buffer;
 pub use fault::ReportFault;
 pub use judged::{Judged, torrent_tree, torrent_with_hashes};
-pub use lines::word_of;
+pub use lines::{v1_of, v2_of, word_of};
 pub use report::{send_object, write_lines, write_paths, write_record, write_rooted_lines};
 pub use segment::Segment;
 pub use sink::Sink;

@@ -229,7 +229,7 @@ pub fn word_of(kind: Kind) -> &'static str
 }
 
 /// The hash of version 1.
-pub(crate) fn v1_of(hashes: &Hashes) -> Option<&[u8]>
+pub fn v1_of(hashes: &Hashes) -> Option<&[u8]>
     ensures { option_map (λ bytes. bytes.now) result ≡ hashes.now.v1 }
 {
     match &hashes.v1 {
@@ -239,7 +239,7 @@ pub(crate) fn v1_of(hashes: &Hashes) -> Option<&[u8]>
 }
 
 /// The hash of version 2.
-pub(crate) fn v2_of(hashes: &Hashes) -> Option<&[u8]>
+pub fn v2_of(hashes: &Hashes) -> Option<&[u8]>
     ensures { option_map (λ bytes. bytes.now) result ≡ hashes.now.v2 }
 {
     match &hashes.v2 {

@@ -8,9 +8,8 @@ use crate::explain::sources::{list_of, place_of};
 use crate::explain::torrents::{file_reason, read_fault_reason};
 use crate::explain::words::{CHANGED, MISSING, SEVERAL_FILES, words_of_make};
 use std::alloc::AllocError;
-use std::fs;
-use std::io;
 use std::rt::Files;
+use std::{fs, io};
 use tor_engine::EngineError;
 use tor_explain::{
     layout_text, list_text, place_text, plain_text, refused_text, scan_text, sums_text,

@@ -1,20 +1,22 @@
 //! `tor recheck`: which pieces of the torrent in a file are there and right.
-ghost use Rattle.std.specs.Prelude.{◌≡◌, if◌then◌else◌, ℕ, List, [], Option, IfErr, IfOk, string_bytes, true};
-ghost use Rattle.tor_cli.specs.recheck.Recheck.{DoesRecheck, IsNotRechecked, IsPastReads, IsRechecked, StopsRechecking};
+ghost use Rattle.std.specs.Prelude.{◌≡◌, if◌then◌else◌, ℕ, List, [], Option, IfErr, IfOk, true};
+ghost use Rattle.tor_cli.specs.recheck.Recheck.{DoesRecheck, IsNotRechecked, IsPastReads, StopsRechecking};
 ghost use Rattle.tor_cli.specs.declared.recheck.source.Links.TheVariants.{Followed, Refused};
+ghost use Rattle.tor_cli.specs.steps.Reporting.{IsToldRechecked};
 ghost use Rattle.tor_cli.specs.steps.Writing.{writing};
 
 use crate::answer::Answer;
 use crate::fault::Fault;
 use crate::foreign::read_file;
 use crate::progress::Progress;
+use crate::recheck::report::write_report;
 use crate::recheck::source::{Links, placed_at};
 use crate::recheck::text::{Report, report_by};
 use crate::recheck::words::RecheckOptions;
 use std::alloc::{AllocError, Global};
 use std::io::Write;
 use std::thread::Threads;
-use tor_meta::write_out;
+use tor_report::Judged;
 use tor_source::FolderSource;
 
 /// Writes which pieces are there and right, and which files, if any are listed; the answer is yes if all pieces are.
@@ -32,21 +34,35 @@ pub fn recheck<T: Threads + Sync, W: Write>(
         (W.contents out.old) (W.contents out.new))) }
 {
     let bytes = read_file(system.alloc(), system, options.torrent)?;
-    let report = report_at(rt, system, &bytes, options, shows_progress)?;
-    write_out(out, report.text.as_bytes())?;
-    Ok(report.answer)
+    let told = report_at(rt, system, &bytes, options, shows_progress)?;
+    write_report(
+        system.alloc(),
+        out,
+        &told.judged,
+        options.form,
+        options.listing,
+        &told.report.bits,
+        &told.report.files,
+    )?;
+    Ok(told.report.answer)
 }
 
-/// What is printed of the torrent that the bytes are, by what the system has at the place.
+/// What is told of a torrent.
+#[derive(Drop)]
+struct Told {
+    judged: Judged,
+    report: Report,
+}
+
+/// What is told of the torrent that the bytes are, by what the system has at the place.
 fn report_at<T: Threads + Sync>(
     rt: &T,
     system: &HostRuntime,
     bytes: &[u8],
     options: &RecheckOptions<'_>,
     shows_progress: bool,
-) -> Result<Report, Fault>
-    ensures rechecked { IfOk result
-        (λ report. IsRechecked options.now bytes.now (string_bytes report.text) report.answer) }
+) -> Result<Told, Fault>
+    ensures rechecked { IfOk result (IsToldRechecked options.now bytes.now) }
     ensures stopped { IfErr result (IsNotRechecked options.now.workers bytes.now) }
     ensures goes_on { options.now.keeps_going ≡ true → IfErr result IsPastReads }
 {
@@ -67,7 +83,10 @@ fn report_at<T: Threads + Sync>(
         options,
         &progress,
     ) {
-        Ok(report) => Ok(report),
+        Ok(report) => Ok(Told {
+            judged: placed.judged,
+            report,
+        }),
         Err(error) => Err(Fault::from(error)),
     }
 }

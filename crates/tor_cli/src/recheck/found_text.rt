@@ -1,50 +1,54 @@
 //! What is printed of a torrent's files after a recheck.
-ghost use Rattle.std.specs.Prelude.{◌≡◌, ◌++◌, IfOk, OnOk, string_bytes};
+ghost use Rattle.std.specs.Prelude.{◌≡◌, IfErr, OnOk};
 ghost use Rattle.tor_cli.specs.recheck.FoundFiles.{found_line, is_whole, length_text, state_word, told_of};
 ghost use Rattle.tor_cli.specs.recheck.FoundFiles.{told_of_files};
+ghost use Rattle.tor_report.specs.Put.{Puts, Stops};
+ghost use Rattle.tor_report.specs.Segments.{segment_text};
 
 use crate::recheck::listing::Listing;
-use crate::text::escape::escaped;
-use crate::text::paths::{path_text, push_path};
-use std::alloc::{AllocError, Global};
-use std::fmt::Write;
 use tor_check::ViewFile;
+use tor_meta::WriteFault;
 use tor_recheck::{FileFound, FileState};
+use tor_report::{Buffer, Segment, Sink, Spelling};
 use tor_tree::TreeFile;
 
-/// What is told of each file, in the torrent's order: the nth that was found is the torrent's nth.
-pub fn push_files(
-    alloc: Global,
-    text: &mut String,
+/// Puts what is told of each file, in the torrent's order: the nth that was found is the torrent's nth.
+pub fn put_files<S: Sink>(
+    buffer: &mut Buffer,
+    out: &mut S,
     listing: Listing,
     found: &[FileFound],
     files: &[ViewFile],
-) -> Result<(), AllocError>
-    ensures { OnOk result (string_bytes text.new
-        ≡ string_bytes text.old ++ told_of_files listing found.now files.now) }
+) -> Result<(), WriteFault>
+    ensures put { OnOk result (Puts S.took (told_of_files listing found.now files.now)
+        out.old buffer.old out.new buffer.new) }
+    ensures stopped { IfErr result (λ fault. Stops S.took S.fails (told_of_files listing found.now files.now)
+        out.old buffer.old out.new fault.written) }
 {
     'files: for (found, file) in found.iter().zip(files) {
-        push_file(alloc, text, listing, found, file.file())?;
+        put_file(buffer, out, listing, found, file.file())?;
     }
     Ok(())
 }
 
-fn push_file(
-    alloc: Global,
-    text: &mut String,
+fn put_file<S: Sink>(
+    buffer: &mut Buffer,
+    out: &mut S,
     listing: Listing,
     found: &FileFound,
     file: &TreeFile,
-) -> Result<(), AllocError>
-    ensures { OnOk result (string_bytes text.new
-        ≡ string_bytes text.old ++ told_of listing found.now file.now) }
+) -> Result<(), WriteFault>
+    ensures put { OnOk result (Puts S.took (told_of listing found.now file.now)
+        out.old buffer.old out.new buffer.new) }
+    ensures stopped { IfErr result (λ fault. Stops S.took S.fails (told_of listing found.now file.now)
+        out.old buffer.old out.new fault.written) }
 {
     match listing {
         Listing::Pieces => Ok(()),
-        Listing::Files => push_line(alloc, text, found, file),
+        Listing::Files => put_line(buffer, out, found, file),
         Listing::BadFiles | Listing::BadPaths if is_whole(found.state) => Ok(()),
-        Listing::BadFiles => push_line(alloc, text, found, file),
-        Listing::BadPaths => push_path(alloc, text, file),
+        Listing::BadFiles => put_line(buffer, out, found, file),
+        Listing::BadPaths => buffer.put_ended_path(out, file),
     }
 }
 
@@ -54,22 +58,33 @@ pub fn is_whole(state: FileState) -> bool
     matches!(state, FileState::Whole)
 }
 
-/// The line of a file. The user's text is escaped.
-fn push_line(
-    alloc: Global,
-    text: &mut String,
+/// Puts the line of a file. The user's text is escaped.
+fn put_line<S: Sink>(
+    buffer: &mut Buffer,
+    out: &mut S,
     found: &FileFound,
     file: &TreeFile,
-) -> Result<(), AllocError>
-    ensures { OnOk result (string_bytes text.new ≡ string_bytes text.old ++ found_line found.now file.now) }
+) -> Result<(), WriteFault>
+    ensures put { OnOk result (Puts S.took (found_line found.now file.now)
+        out.old buffer.old out.new buffer.new) }
+    ensures stopped { IfErr result (λ fault. Stops S.took S.fails (found_line found.now file.now)
+        out.old buffer.old out.new fault.written) }
 {
-    let state = state_word(found.state);
-    let good = found.good;
-    let pieces = found.pieces;
-    let there = length_text(alloc, found.there)?;
-    let told = found.told;
-    let path = escaped(alloc, path_text(alloc, &file.path)?.as_str())?;
-    writeln!(text, "{state} {good} {pieces} {there} {told} {path}")
+    let segments = [
+        Segment::Text(state_word(found.state)),
+        Segment::Text(" "),
+        Segment::Number(found.good),
+        Segment::Text(" "),
+        Segment::Number(found.pieces),
+        Segment::Text(" "),
+        length_segment(found.there),
+        Segment::Text(" "),
+        Segment::Number(found.told),
+        Segment::Text(" "),
+        Segment::Path(Spelling::InLine, &file.path),
+        Segment::Text("\n"),
+    ];
+    buffer.put_all(out, &segments)
 }
 
 /// The word for a state.
@@ -87,11 +102,11 @@ pub fn state_word(state: FileState) -> &'static str
 }
 
 /// A length in bytes; a hyphen if there is none.
-fn length_text(alloc: Global, length: Option<u64>) -> Result<String, AllocError>
-    ensures { IfOk result (λ text. string_bytes text ≡ length_text length) }
+fn length_segment(length: Option<u64>) -> Segment<'static>
+    ensures { segment_text result ≡ length_text length }
 {
     match length {
-        Some(length) => format!(in alloc; "{length}"),
-        None => String::from_str(alloc, "-"),
+        Some(length) => Segment::Number(length),
+        None => Segment::Text("-"),
     }
 }

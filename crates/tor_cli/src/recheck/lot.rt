@@ -17,7 +17,7 @@ use crate::recheck::listing::Form;
 use crate::recheck::lot_words::LotRecheckOptions;
 use crate::recheck::record::bits_value;
 use crate::recheck::source::{Links, placed_at};
-use crate::recheck::text::{Report, answer_of, counts_text, text_of};
+use crate::recheck::text::{answer_of, counts_text, text_of};
 use crate::text::json::line_of;
 use crate::workers::board_of;
 use serde_json::{Value, json};
@@ -47,6 +47,14 @@ pub fn recheck_part<T: Threads + Sync, W: Write>(
     Ok(report.answer)
 }
 
+/// What is printed of a lot.
+#[derive(Drop)]
+struct LotReport {
+    text: String,
+    /// Whether all its pieces are there and right.
+    answer: Answer,
+}
+
 /// What is printed of the lot of the torrent that the bytes are, by what the system has at the place.
 fn report_at<T: Threads + Sync>(
     rt: &T,
@@ -54,7 +62,7 @@ fn report_at<T: Threads + Sync>(
     bytes: &[u8],
     options: &LotRecheckOptions<'_>,
     shows_progress: bool,
-) -> Result<Report, Fault>
+) -> Result<LotReport, Fault>
     ensures rechecked { IfOk result
         (λ report. IsLotRechecked options.now bytes.now (string_bytes report.text) report.answer) }
     ensures stopped { IfErr result (IsNotRechecked options.now.workers bytes.now) }
@@ -97,7 +105,7 @@ fn links_of_lot(options: &LotRecheckOptions<'_>) -> Links
 }
 
 /// What is printed of the bits of a lot whose first piece this is.
-fn report_of(alloc: Global, form: Form, from: u64, bits: &Bits) -> Result<Report, AllocError>
+fn report_of(alloc: Global, form: Form, from: u64, bits: &Bits) -> Result<LotReport, AllocError>
     requires { from + length bits.now < 2 ^ 64 }
     ensures printed { IfOk result (λ report. string_bytes report.text ≡ lot_text form from bits.now) }
     ensures answered { IfOk result (λ report. report.answer ≡ recheck_answer bits.now) }
@@ -107,7 +115,7 @@ fn report_of(alloc: Global, form: Form, from: u64, bits: &Bits) -> Result<Report
         Form::Brief => counts_text(alloc, bits)?,
         Form::Json => line_of(alloc, &lot_value(alloc, from, bits)?)?,
     };
-    Ok(Report {
+    Ok(LotReport {
         text,
         answer: answer_of(bits),
     })

@@ -1,20 +1,23 @@
 //! `tor scan`: its doing.
-ghost use Rattle.std.specs.Prelude.{◌≡◌, IfErr, IfOk, IfSome, length, string_bytes};
-ghost use Rattle.tor_cli.specs.scan.Inventory.{IsInventory};
+ghost use Rattle.std.specs.Io.KnownBytes.{Appends};
+ghost use Rattle.std.specs.Prelude.{◌≡◌, IfErr, IfOk, OnOk, length};
 ghost use Rattle.tor_cli.specs.scan.Scanning.{DoesScan, IsAnswerOf, StopsScanning};
 ghost use Rattle.tor_cli.specs.scan.ScanText.{scan_text};
 ghost use Rattle.tor_cli.specs.Streams.{streams};
+ghost use Rattle.tor_report.specs.Put.{Puts, Stops};
+ghost use Rattle.tor_report.specs.Reports.{IsCutShort};
 
 use crate::answer::Answer;
 use crate::fault::Fault;
 use crate::make::chosen_files::chosen_files;
 use crate::scan::inventory::{Inventory, inventory_of};
-use crate::scan::lines::{ended_paths, scan_lines};
-use crate::scan::record::scan_line;
+use crate::scan::lines::{put_lines, put_paths};
+use crate::scan::record::put_record;
 use crate::scan::words::{ScanForm, ScanOptions};
-use std::alloc::{AllocError, Global};
+use std::alloc::Global;
 use std::io::{Read, Write};
-use tor_meta::write_out;
+use tor_meta::WriteFault;
+use tor_report::{Buffer, ReportFault, Sink};
 
 /// Writes which files at a place can be taken, and what is refused; the answer is yes if nothing is. No file is read.
 pub fn scan<R: Read, W: Write>(
@@ -31,20 +34,45 @@ pub fn scan<R: Read, W: Write>(
     let alloc = system.alloc();
     let chosen = chosen_files(alloc, system, options.list, reader)?;
     let found = inventory_of(system, options.place, chosen)?;
-    let text = text_of(alloc, options.form, &found)?;
-    write_out(out, text.as_bytes())?;
+    write_scan(alloc, out, options.form, &found)?;
     Ok(answer_of(&found))
 }
 
-/// What is printed of an inventory.
-fn text_of(alloc: Global, form: ScanForm, found: &Inventory) -> Result<String, AllocError>
+/// Writes what is printed of an inventory, as it is made. All memory for it is taken before the first byte goes out:
+/// 64 KiB.
+fn write_scan<W: Write>(
+    alloc: Global,
+    out: &mut W,
+    form: ScanForm,
+    found: &Inventory,
+) -> Result<(), ReportFault>
     requires { length found.now.lengths.items ≡ length found.now.paths.items }
-    ensures { IfOk result (λ text. string_bytes text ≡ scan_text form found.now) }
+    ensures printed { OnOk result
+        (Appends (W.contents out.old) (W.contents out.new) (scan_text form found.now)) }
+    ensures stopped { IfErr result
+        (IsCutShort (scan_text form found.now) (W.contents out.old) (W.contents out.new)) }
+{
+    let mut buffer = Buffer::new(alloc)?;
+    put_scan(&mut buffer, out, form, found)?;
+    buffer.end(out)?;
+    Ok(())
+}
+
+fn put_scan<S: Sink>(
+    buffer: &mut Buffer,
+    out: &mut S,
+    form: ScanForm,
+    found: &Inventory,
+) -> Result<(), WriteFault>
+    requires { length found.now.lengths.items ≡ length found.now.paths.items }
+    ensures put { OnOk result (Puts S.took (scan_text form found.now) out.old buffer.old out.new buffer.new) }
+    ensures stopped { IfErr result (λ fault. Stops S.took S.fails (scan_text form found.now)
+        out.old buffer.old out.new fault.written) }
 {
     match form {
-        ScanForm::Lines => scan_lines(alloc, found),
-        ScanForm::Paths => ended_paths(alloc, found),
-        ScanForm::Record => scan_line(alloc, found),
+        ScanForm::Lines => put_lines(buffer, out, found),
+        ScanForm::Paths => put_paths(buffer, out, &found.paths),
+        ScanForm::Record => put_record(buffer, out, found),
     }
 }
 

@@ -10,8 +10,8 @@ pub returns-in-Err-clause-stopped : goal.returns-in-Err-clause-stopped
 returns-in-Err-clause-stopped g c =
     unplaced c.args.options.now.workers c.args.bytes.now c.in-Err.fault c.in-Err.ensures.stopped
 
-pub returns-clause-stopped : goal.returns-clause-stopped
-returns-clause-stopped g c =
+pub returns-in-Err-report_by-clause-stopped : goal.returns-in-Err-report_by-clause-stopped
+returns-in-Err-report_by-clause-stopped g c =
     let view = c.in-Ok.placed.judged.torrent in
     let source = c.in-Ok.placed.source in
     let error = c.in-Err-report_by.error in
@@ -23,10 +23,20 @@ returns-clause-stopped g c =
     c.in-Err-report_by.ensures.allowed
     (λ none. err_is error Workers _ c.in-Err-report_by.is (c.report_by.ensures.refused none)))
 
-pub returns-clause-goes_on : goal.returns-clause-goes_on
-returns-clause-goes_on g c = λ kept.
+pub returns-in-Err-report_by-clause-goes_on : goal.returns-in-Err-report_by-clause-goes_on
+returns-in-Err-report_by-clause-goes_on g c = λ kept.
     rw c.from.ensures (past_reads c.in-Err-report_by.error (c.in-Err-report_by.ensures.goes_past kept))
 
 pub returns-in-Err-clause-goes_on : goal.returns-in-Err-clause-goes_on
 returns-in-Err-clause-goes_on g c = λ kept.
     unplaced_past c.args.bytes.now c.in-Err.fault c.in-Err.ensures.stopped
+
+pub returns-in-Ok-report_by-clause-rechecked : goal.returns-in-Ok-report_by-clause-rechecked
+returns-in-Ok-report_by-clause-rechecked g c = λ text printed.
+    record {
+      view = c.in-Ok.placed.judged.torrent;
+      hashes = c.in-Ok.placed.judged.hashes;
+      torrent = c.in-Ok.ensures.told;
+      allowed = c.in-Ok-report_by.ensures.workers;
+      report = c.in-Ok-report_by.ensures.reported text printed;
+    }
