@@ -101,6 +101,16 @@ def expect_faults_as_found(program, folder, words):
         ('getdents64:error=EIO:when=1', 'F4 System'), ('getdents64:error=EIO:when=2', 'F4 System')])
 
 
+def test_too_few_descriptors(program, folder):
+    """A fault of the system, and not of a file that has none: the second line has the reason."""
+    files = lay_out(folder)
+    told, _ = traced(program, ['make', '--explain', '--name', 'f', files], None, ['openat:error=EMFILE'], folder / 'log')
+    if told.status == 127:
+        raise Skipped('it needs a program that loads no library')
+    line = b'F4 System\ntor: %s: Too many open files (os error 24)' % os.fsencode(files)
+    expect_told(['make', '--explain', '--name', 'f', str(files)], refused(line, 3), told)
+
+
 def test_of_streams(program, folder):
     """A file that is read once is opened when its turn comes: what cannot be, and what cannot be read, is told with how
     much of it came."""

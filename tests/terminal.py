@@ -1,4 +1,6 @@
-"""The line of progress, which a terminal at standard error shows, and nothing else does."""
+"""What a terminal shows, and nothing else does: the line of progress at standard error; names without characters that
+drive it, or by which it shows a line in another order."""
+import json
 import os
 import random
 import re
@@ -9,7 +11,8 @@ import tempfile
 import time
 import tty
 
-from reference import judge, sha256
+import reference
+from reference import BLOCK, Order, judge, sha256
 from rows import ABC
 from sizes import ZERO_LEAF, blocks_of, v2_of
 from support import Failure, Skipped, Told, done, expect, expect_equal
@@ -351,3 +354,85 @@ def test_minutes_and_hours(program, folder):
         for at, part in parts[:2]:
             check_line(part, at, size)
         os.remove(path)
+
+
+# Control characters of two bytes, and those that turn the direction of what follows; and what stands beside them.
+HIDDEN = [*range(0x80, 0xA0), *range(0x202A, 0x202F), *range(0x2066, 0x206A)]
+BESIDE = [0xA0, 0xAA, 0xBF, 0xC0, 0x2000, 0x2029, 0x202F, 0x203F, 0x2040, 0x2065, 0x206A, 0x2080, 0x20AC, 0x1F426]
+
+
+def at_terminal(program, words):
+    """What comes if standard output and standard error are one terminal, and the status."""
+    master, slave = terminal()
+    child = subprocess.Popen([program, *map(str, words)], stdin=subprocess.DEVNULL, stdout=slave, stderr=slave)
+    os.close(slave)
+    shown = b''
+    while select.select([master], [], [], 120)[0]:
+        try:
+            part = os.read(master, 65536)
+        except OSError:
+            break
+        if not part:
+            break
+        shown += part
+    os.close(master)
+    return child.wait(), shown
+
+
+def without_hidden(text):
+    """Each of these characters as its bytes, each as a backslash, x and two digits."""
+    for number in HIDDEN:
+        spelled = chr(number).encode()
+        text = text.replace(spelled, b''.join(b'\\x%02x' % byte for byte in spelled))
+    return text
+
+
+def of_names(folder, kind):
+    """The torrent of a folder, and the folder: each character is in a name, all of them in one, and each twice."""
+    texts = [f'a{chr(number)}b' for number in HIDDEN + BESIDE] + [''.join(map(chr, HIDDEN)), chr(0x9B) * 2, chr(0x202E)]
+    files = sorted(((text.encode(),), b'x') for text in texts)
+    place = folder / 'files'
+    place.mkdir(exist_ok=True)
+    for (name,), content in files:
+        (place / os.fsdecode(name)).write_bytes(content)
+    return reference.make(files, Order(kind, False, b'f', BLOCK, None, False, 'one', 1, 16)), place
+
+
+def test_names_on_a_terminal(program, folder):
+    for kind in ['v1', 'v2']:
+        made, place = of_names(folder, kind)
+        torrent = folder / 'torrent'
+        torrent.write_bytes(made)
+        lines = reference.check_lines(judge(made))
+        expect(program, ['check', torrent], done(lines), note='without a terminal\n')
+        expect_equal('check', (0, without_hidden(lines)), at_terminal(program, ['check', torrent]))
+        (place / 'a\u202eb').write_bytes(b'')
+        told = expect_told_of_bad(program, torrent, place)
+        expect_equal('recheck', (1, without_hidden(told)), at_terminal(program, ['recheck', '--bad', torrent, place]))
+        (place / 'a\u202eb').write_bytes(b'x')
+        expect_equal('make', (0, made), at_terminal(program, ['make', '--name', 'f', '--kind', kind,
+                                                             '--piece-length', BLOCK, place]))
+
+
+def expect_told_of_bad(program, torrent, place):
+    """What a recheck tells off a terminal, in which the character stands as it is."""
+    told = subprocess.run([program, 'recheck', '--bad', torrent, place], capture_output=True)
+    expect_equal('the character off a terminal', True, 'a\u202eb\n'.encode() in told.stdout)
+    return told.stdout
+
+
+def test_json_on_a_terminal(program, folder):
+    made, _ = of_names(folder, 'v2')
+    torrent = folder / 'torrent'
+    torrent.write_bytes(made)
+    plain = subprocess.run([program, 'check', '--json', torrent], capture_output=True).stdout
+    status, shown = at_terminal(program, ['check', '--json', torrent])
+    expect_equal('status, and what it means', (0, json.loads(plain)), (status, json.loads(shown)))
+    expect_equal('of these characters', shown, without_hidden(shown))
+    expect_equal('another text', False, plain == shown)
+
+
+def test_names_in_faults_on_a_terminal(program, folder):
+    place = folder / 'no\u202efile\x9b'
+    wanted = b'tor: read fault\ntor: ' + without_hidden(os.fsencode(place)) + b': No such file or directory (os error 2)\n'
+    expect_equal('both lines', (3, wanted), at_terminal(program, ['check', place]))
