@@ -48,40 +48,27 @@ read_words() {
     words+=(--antt-project "$kit/rattle/logic/antt-project.json" --logic-built "$kit/logic_built" --links "$crate=")
 }
 
-# Calls rattle in the folder of a crate. What it says is shown where it fails.
+# Calls rattle build in the folder of a crate. What it says is shown where it fails.
 call_rattle() {
     local tree=$1 crate=$2 log=$3
     shift 3
-    (cd "$tree/crates/$crate" && rattle "$@" >"$log" 2>&1) || { cat "$log" >&2; return 1; }
+    (cd "$tree/crates/$crate" && rattle build "$@" >"$log" 2>&1) || { cat "$log" >&2; return 1; }
 }
 
 # Proves a library from nothing, and leaves what crates above it need of it. The last argument is how many jobs.
 prove_library() {
     local words
     read_words "$1" "$2"
-    call_rattle "$1" "$2" "$3.log" build "${words[@]}" --jobs "$4" --statements -o "$3"
+    call_rattle "$1" "$2" "$3.log" "${words[@]}" --jobs "$4" --statements -o "$3"
 }
 
-# Proves the program's own file over the libraries, and keeps in a file what was checked.
-check_program() {
+# Proves the program's own file over the libraries, compiles it for a processor, and links it, as the gate does. Its
+# object file stays beside it.
+build_program() {
     local words
     read_words "$1" tor
-    call_rattle "$1" tor "$2.log" check "${words[@]}" --jobs 1 -o "$2"
-}
-
-# Compiles the program for a processor from what was checked, and links it, as the gate does. Its object file stays
-# beside it.
-compile_program() {
-    local words given=()
-    read_words "$1" tor
-    while [ ${#words[@]} -gt 0 ]; do
-        if [ "${words[0]}" = --logic-built ]; then words=("${words[@]:2}"); continue; fi
-        given+=("${words[0]}")
-        words=("${words[@]:1}")
-    done
-    call_rattle "$1" tor "$4.log" build "${given[@]}" --crate-checked "$3" --cpu="$2" --toolchain "$kit/toolchain" \
-        --backend llvm -o "$4.o"
-    "$kit/bin/rattle-link" --target x86_64-unknown-linux-gnu --toolchain "$kit/toolchain" -o "$4" "$4.o" \
+    call_rattle "$1" tor "$3.log" "${words[@]}" --cpu="$2" --jobs 1 --toolchain "$kit/toolchain" --backend llvm -o "$3.o"
+    "$kit/bin/rattle-link" --target x86_64-unknown-linux-gnu --toolchain "$kit/toolchain" -o "$3" "$3.o" \
         "$kit/c/libos_c.a" "$kit/c/liblibc_c.a" >/dev/null
 }
 
@@ -127,7 +114,7 @@ without_loading() {
         xargs "$kit/toolchain/bin/llvm-ar" d "$2"
 }
 
-# Links an object file, as `compile_program` leaves it, into a program that asks for no file of the machine that it runs
+# Links an object file, as `build_program` leaves it, into a program that asks for no file of the machine that it runs
 # on. Where it is loaded is for the system to choose. `_dl_init_paths` would prepare the search for libraries.
 link_static() {
     local lib=$kit/toolchain/lib start archive unwinding symbol status=0 instead=(--defsym=_dl_init_paths=abs)
@@ -161,7 +148,7 @@ build_library() {
     local tree=$1 processor=$2 made=$3/made-$2 words name kept=()
     mkdir -p "$made"
     read_words "$tree" tor_c
-    call_rattle "$tree" tor_c "$made/log" build "${words[@]}" --cpu="$processor" --jobs 1 --toolchain "$kit/toolchain" \
+    call_rattle "$tree" tor_c "$made/log" "${words[@]}" --cpu="$processor" --jobs 1 --toolchain "$kit/toolchain" \
         --backend llvm -o "$made/libtor_c.a"
     (cd "$made" && "$kit/toolchain/bin/llvm-ar" x libtor_c.a && "$kit/toolchain/bin/llvm-ar" x "$kit/c/liblibc_c.a")
     "$kit/toolchain/bin/ld.lld" -r --threads=1 -o "$made/joined.o" "$made/tor_c.o" "$made/heap.pic.o"
