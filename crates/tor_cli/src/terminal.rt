@@ -1,7 +1,8 @@
-//! What a terminal is shown of names: no character that drives it, and none by which it shows a line in another order.
+//! What a terminal is shown of names in lines: no character that drives it, and none by which it shows a line in another
+//! order.
 //!
-//! Lines have no control byte. But in UTF-8 there are control characters of two bytes, from U+0080 to U+009F, and those
-//! that turn the direction of what follows, from U+202A to U+202E and from U+2066 to U+2069.
+//! Lines have no control byte of ASCII. But in UTF-8 there are control characters of two bytes, from U+0080 to U+009F,
+//! and those that turn the direction of what follows, from U+202A to U+202E and from U+2066 to U+2069.
 ghost use Rattle.std.specs.Prelude.{◌≡◌, ◌≤◌, ◌<◌, false, if◌then◌else◌, length};
 ghost use Rattle.tor_cli.specs.declared.terminal.Escapes.TheVariants.{Bytes, None};
 
@@ -19,7 +20,7 @@ pub enum Escapes {
 }
 
 /// How such characters are written out on standard output, if it is a terminal, where the first of the words is the
-/// program's name. Torrents and plans are no lines, and go out as they are.
+/// program's name. Torrents, plans and paths that zero bytes end are no lines, and go out as they are.
 pub fn escapes_for(words: &[&str], is_terminal: bool) -> Escapes
     ensures { is_terminal ≡ false → result ≡ None }
 {
@@ -28,9 +29,18 @@ pub fn escapes_for(words: &[&str], is_terminal: bool) -> Escapes
     }
     match words.get(1) {
         Some(command) if matches!(*command, "make" | "plan" | "join" | "edit") => Escapes::None,
-        _ if words.iter().any(|word| *word == "--json") => Escapes::Json,
+        _ if has_flag(words, "--null") => Escapes::None,
+        _ if has_flag(words, "--json") => Escapes::Json,
         _ => Escapes::Bytes,
     }
+}
+
+/// Whether a flag is among the words, before a `--`.
+fn has_flag(words: &[&str], flag: &str) -> bool {
+    words
+        .iter()
+        .take_while(|word| **word != "--")
+        .any(|word| *word == flag)
 }
 
 /// How such characters are written out in lines, if they go to a terminal.

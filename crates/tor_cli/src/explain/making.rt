@@ -59,7 +59,8 @@ fn refused_at(
     }
 }
 
-/// Why a place that is there cannot be opened, as with too many files open; else what the fault means.
+/// Why a folder that is there cannot be opened, as with too many files open; else what the fault means. Nothing else is
+/// opened: a FIFO might wait.
 fn unopened_reason(
     system: &HostRuntime,
     place: &str,
@@ -68,12 +69,22 @@ fn unopened_reason(
     ensures { IfOk result (λ text. IsPlainText (string_bytes text)) }
 {
     let alloc = system.alloc();
+    if !is_folder(system, place) {
+        return scan_text(alloc, fault);
+    }
     match fs::open(system, place) {
         Ok(_) => scan_text(alloc, fault),
         Err(error) => {
             let why = format!(in alloc; "{error}")?;
             place_text(alloc, place, &why)
         }
+    }
+}
+
+fn is_folder(system: &HostRuntime, place: &str) -> bool {
+    match system.metadata(place) {
+        Ok(found) => found.is_dir(),
+        Err(_) => false,
     }
 }
 
