@@ -361,10 +361,10 @@ HIDDEN = [*range(0x80, 0xA0), *range(0x202A, 0x202F), *range(0x2066, 0x206A)]
 BESIDE = [0xA0, 0xAA, 0xBF, 0xC0, 0x2000, 0x2029, 0x202F, 0x203F, 0x2040, 0x2065, 0x206A, 0x2080, 0x20AC, 0x1F426]
 
 
-def at_terminal(program, words):
-    """What comes if standard output and standard error are one terminal, and the status."""
+def at_terminal(program, words, **more):
+    """The status, and what comes if standard output and standard error are one terminal."""
     master, slave = terminal()
-    child = subprocess.Popen([program, *map(str, words)], stdin=subprocess.DEVNULL, stdout=slave, stderr=slave)
+    child = subprocess.Popen([program, *map(str, words)], stdin=subprocess.DEVNULL, stdout=slave, stderr=slave, **more)
     os.close(slave)
     shown = b''
     while select.select([master], [], [], 120)[0]:
@@ -419,6 +419,17 @@ def expect_told_of_bad(program, torrent, place):
     told = subprocess.run([program, 'recheck', '--bad', torrent, place], capture_output=True)
     expect_equal('the character off a terminal', True, 'a\u202eb\n'.encode() in told.stdout)
     return told.stdout
+
+
+def test_paths_and_a_file_of_a_flags_name_on_a_terminal(program, folder):
+    """Paths that zero bytes end go out as they are; behind `--` there is no flag."""
+    made, _ = of_names(folder, 'v2')
+    torrent = folder / '--json'
+    torrent.write_bytes(made)
+    paths = subprocess.run([program, 'check', '--null', torrent], capture_output=True).stdout
+    expect_equal('--null', (0, paths), at_terminal(program, ['check', '--null', torrent]))
+    expect_equal('-- --json', (0, without_hidden(reference.check_lines(judge(made)))),
+                 at_terminal(program, ['check', '--', '--json'], cwd=folder))
 
 
 def test_json_on_a_terminal(program, folder):
