@@ -7,7 +7,7 @@ ghost use Rattle.tor_cli.specs.recheck.Extra.{ended_path, ended_paths, extra_tex
 
 use crate::scan::words::ScanForm;
 use crate::text::escape::{escaped_bytes, printable};
-use crate::text::json::line_of;
+use crate::text::json_line::line_of;
 use serde_json::{Value, json};
 use std::alloc::{AllocError, Global};
 use std::fmt::Write;

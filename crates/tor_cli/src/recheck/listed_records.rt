@@ -12,7 +12,7 @@ use crate::recheck::bytes_found::BytesFound;
 use crate::recheck::found_record::put_found;
 use crate::recheck::found_text::is_whole;
 use crate::recheck::listing::Listing;
-use crate::text::json::comma_if;
+use crate::text::json_line::comma_if;
 use tor_check::ViewFile;
 use tor_meta::WriteFault;
 use tor_recheck::FileState;

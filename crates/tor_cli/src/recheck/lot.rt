@@ -18,7 +18,7 @@ use crate::recheck::lot_words::LotRecheckOptions;
 use crate::recheck::record::bits_value;
 use crate::recheck::source::{Links, placed_at};
 use crate::recheck::text::{answer_of, counts_text, text_of};
-use crate::text::json::line_of;
+use crate::text::json_line::line_of;
 use crate::workers::board_of;
 use serde_json::{Value, json};
 use std::alloc::{AllocError, Global};

@@ -12,7 +12,7 @@ ghost use Rattle.tor_report.specs.Records.{sized_data};
 use crate::scan::inventory::Inventory;
 use crate::scan::lines::total_of;
 use crate::scan::refusals::{refusal_code, refusal_word};
-use crate::text::json::comma_if;
+use crate::text::json_line::comma_if;
 use tor_meta::{WriteFault, auto_piece_length};
 use tor_report::{Buffer, Segment, Sink};
 use tor_source::Refused;
