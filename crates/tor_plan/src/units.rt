@@ -1,5 +1,5 @@
 //! Units of work, and their parts.
-ghost use Rattle.std.specs.Prelude.{◌≡◌};
+ghost use Rattle.std.specs.Prelude.{◌≡◌, ◌∷◌, ◌++◌, [], OnErr, OnOk};
 
 use std::alloc::{AllocError, Global};
 use std::marker::Model;
@@ -79,7 +79,7 @@ impl PlanUnit {
         ensures long { OnOk result (unit_length self.new ≡ unit_length self.old + (part.length + part.zeros)) }
         ensures kept { OnErr result (self.new ≡ self.old) }
     {
-        self.parts.parts.push(part)?;
+        push_part(&mut self.parts.parts, part)?;
         Ok(())
     }
 
@@ -94,4 +94,16 @@ impl PlanUnit {
             None => self.zeros += count,
         }
     }
+}
+
+/// Adds a part after the others. Most units have one, so for the first no more memory is asked for than it takes.
+fn push_part(parts: &mut Vec<Part>, part: Part) -> Result<(), AllocError>
+    ensures added { OnOk result (parts.new.items ≡ parts.old.items ++ part ∷ []) }
+    ensures kept { OnErr result (parts.new.items ≡ parts.old.items) }
+{
+    if parts.is_empty() {
+        parts.reserve_exact(1)?;
+    }
+    parts.push(part)?;
+    Ok(())
 }
