@@ -9,6 +9,7 @@ pub mod KnownPaths
 pub mod Parted
 pub mod PathOrder
 pub mod Pieces
+pub mod Placed
 pub mod ProvedLaws
 pub mod SameNames
 pub mod Waiting

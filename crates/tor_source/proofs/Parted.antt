@@ -5,11 +5,10 @@ use Rattle.std.proofs.Common.{Bool, true, false, not, add-one, vec_len}
 use Rattle.std.proofs.Math.Seq.{take-suc}
 use Rattle.std.proofs.lemmas.List.{length_push, map_push}
 use Rattle.std.proofs.lemmas.List.Elements.{All-nil, All-push}
-use Rattle.std.specs.String.{string_bytes}
 use Rattle.tor_tree.specs.Path.{name_eq}
 use Rattle.tor_source.proofs.SameNames.{same_bytes}
 use Rattle.tor_source.specs.Named.{AreParted, path_of}
-use Rattle.tor_source.specs.Places.{names_bytes, place_below}
+use Rattle.tor_source.specs.Places.{names_bytes}
 use Rattle.tor_source.specs.declared.found.FoundFiles.{FoundFiles}
 use Rattle.tor_source.specs.declared.refused.Refusal.{Refusal}
 use Rattle.tor_source.specs.declared.refused.Refused.{Refused}
@@ -59,13 +58,6 @@ looked_taken files old new file taken short h = record {
   parted = rw (taken.path, taken.refused)
       (parted_taken files old.paths.items (map path_of old.refused.items) file h.parted);
   short = rw taken.path (All-push (λ path. length path ≤ MAX_NAMES) old.paths.items file h.short short);
-  placed = rw (
-    taken.place,
-    taken.path,
-    taken.folder,
-    map_push (place_below (string_bytes old.folder)) old.paths.items file,
-    ← h.placed,
-  ) refl;
   told = rw (taken.path, taken.told, h.told) (sym (length_push old.paths.items file));
 }
 
@@ -78,17 +70,15 @@ looked_refused files old new file refusal refused h = record {
     path_more old.refused.items new.refused.items (names_bytes file) refusal refused.refused,
   ) (parted_refused files old.paths.items (map path_of old.refused.items) file h.parted);
   short = rw refused.paths h.short;
-  placed = rw (refused.places, refused.paths, refused.folder) h.placed;
   told = rw (refused.told, refused.paths) h.told;
 }
 
 -- none was looked for yet
-pub looked_none : (found : FoundFiles) → found.paths.items ≡ [] → found.places.items ≡ []
-    → vec_len found.listed.lengths ≡ 0 → found.refused.items ≡ [] → HasLookedFor [] found
-looked_none found paths places told refused = record {
+pub looked_none : (found : FoundFiles) → found.paths.items ≡ [] → vec_len found.listed.lengths ≡ 0
+    → found.refused.items ≡ [] → HasLookedFor [] found
+looked_none found paths told refused = record {
   parted = rw (paths, refused) (refl, refl);
   short = rw paths (All-nil (λ path. length path ≤ MAX_NAMES));
-  placed = rw (paths, places) refl;
   told = rw (told, paths) refl;
 }
 

@@ -35,8 +35,8 @@ pub fn is_absence(kind: io::ErrorKind) -> bool
     matches!(kind, io::ErrorKind::NotFound | io::ErrorKind::NotADirectory)
 }
 
-/// The most bytes of a place that the system takes.
-const MAX_PLACE: usize = 4095;
+/// The most bytes of a place that the system takes (Linux, PATH_MAX less the zero byte).
+pub(crate) const MAX_PLACE: usize = 4095;
 
 /// Whether a fault of this kind says that nothing is at this place. A name that is too long for the file system is one
 /// that nothing has.

@@ -4,7 +4,6 @@ ghost use Rattle.std.specs.Prelude.{IsOk, List, vec_len};
 ghost use Rattle.std.specs.List.{All};
 ghost use Rattle.std.specs.List.Sorted.{IsStrictlySortedBy};
 ghost use Rattle.std.specs.IoError.{error_kind};
-ghost use Rattle.std.specs.String.{string_bytes};
 ghost use Rattle.tor_source.specs.Answers.{system_answers};
 ghost use Rattle.tor_source.specs.Faults.{fault_of_refusal, is_absence};
 ghost use Rattle.tor_source.specs.Named.{AreParted, path_of};
@@ -19,7 +18,7 @@ use crate::found::FoundFiles;
 use crate::lazy::{LazyFile, readers_of};
 use crate::listed_file::{ListedFiles, read_listed};
 use crate::named::find;
-use crate::places::{one_place, places_of};
+use crate::places::{Place, Places};
 use crate::refused::Refused;
 use crate::source::Source;
 use crate::unlinked::{Met, is_among};
@@ -39,7 +38,7 @@ use tor_tree::FilePath;
 pub struct FolderSource<R: Files> {
     rt: R,
     /// Where the system has each file.
-    pub(crate) places: Vec<String>,
+    pub(crate) places: Places,
     /// What a listing told of each.
     listed: ListedFiles,
     /// How each stands, if they were looked for with no link followed; none if they were not.
@@ -55,14 +54,13 @@ pub struct Survey<R: Files> {
 }
 
 impl<R: Files> Model for FolderSource<R> {
-    ghost use Rattle.std.specs.Prelude.{◌≡◌, ℕ, List, map, vec_len};
-    ghost use Rattle.std.specs.String.{string_bytes};
+    ghost use Rattle.std.specs.Prelude.{◌≡◌, ℕ, List, length, vec_len};
 
     ghost Value = { List (List ℕ) };
 
-    ghost view = { λ source. map string_bytes source.places.items };
+    ghost view = { λ source. source.places };
 
-    ghost invariant = { λ source. vec_len source.listed.lengths ≡ vec_len source.places };
+    ghost invariant = { λ source. vec_len source.listed.lengths ≡ length source.places };
 }
 
 impl<R: Files + Clone + Drop> FolderSource<R> {
@@ -111,19 +109,25 @@ impl<R: Files + Clone + Drop> FolderSource<R> {
             return Err(ScanFault::System);
         }
         let found = walk(rt, alloc, place, ends)?;
-        let survey = FolderSource::survey_of(rt, alloc, found)?;
+        let survey = FolderSource::survey_of(rt, alloc, place, found)?;
         Ok(survey)
     }
 
-    // What was found below a folder.
-    fn survey_of(rt: &R, alloc: Global, found: FoundFiles) -> Result<Survey<R>, AllocError>
-        requires { vec_len found.listed.lengths ≡ vec_len found.places }
-        ensures source { IfOk result (λ survey. survey.source ≡ map string_bytes found.places.items) }
+    // What was found below this folder.
+    fn survey_of(
+        rt: &R,
+        alloc: Global,
+        folder: &str,
+        found: FoundFiles,
+    ) -> Result<Survey<R>, AllocError>
+        requires { vec_len found.listed.lengths ≡ vec_len found.paths }
+        ensures source { IfOk result (λ survey. survey.source ≡ map (place_of folder.now) found.paths.items) }
         ensures paths { IfOk result (λ survey. survey.paths ≡ found.paths) }
         ensures refused { IfOk result (λ survey. survey.refused ≡ found.refused) }
     {
+        let places = Places::below(alloc, folder, copies_of(alloc, &found.paths)?)?;
         Ok(Survey {
-            source: FolderSource::of_listed(rt, alloc, found.places, found.listed)?,
+            source: FolderSource::of_listed(rt, alloc, places, found.listed)?,
             paths: found.paths,
             refused: found.refused,
         })
@@ -150,7 +154,7 @@ impl<R: Files + Clone + Drop> FolderSource<R> {
             return Err(ScanFault::System);
         }
         let found = find(rt, alloc, folder, &files)?;
-        let survey = FolderSource::survey_of(rt, alloc, found)?;
+        let survey = FolderSource::survey_of(rt, alloc, folder, found)?;
         Ok(survey)
     }
 
@@ -170,27 +174,25 @@ impl<R: Files + Clone + Drop> FolderSource<R> {
     ) -> Result<FolderSource<R>, AllocError>
         ensures { IfOk result (λ source. source ≡ map (place_of place.now) files.items) }
     {
-        let places = places_of(alloc, place, &files)?;
-        FolderSource::of_places(rt, alloc, places)
+        FolderSource::of_places(rt, alloc, Places::below(alloc, place, files)?)
     }
 
     /// The one file `place`.
     pub fn single(rt: &R, alloc: Global, place: &str) -> Result<FolderSource<R>, AllocError>
         ensures { IfOk result (λ source. source ≡ place.now ∷ []) }
     {
-        let places = one_place(alloc, place)?;
-        FolderSource::of_places(rt, alloc, places)
+        FolderSource::of_places(rt, alloc, Places::one(alloc, place)?)
     }
 
     /// The files at these places, of which nothing was told.
     pub(crate) fn of_places(
         rt: &R,
         alloc: Global,
-        places: Vec<String>,
+        places: Places,
     ) -> Result<FolderSource<R>, AllocError>
-        ensures { IfOk result (λ source. source ≡ map string_bytes places.items) }
+        ensures { IfOk result (λ source. source ≡ places) }
     {
-        let listed = ListedFiles::untold(alloc, places.len())?;
+        let listed = ListedFiles::untold(alloc, places.count())?;
         FolderSource::of_listed(rt, alloc, places, listed)
     }
 
@@ -198,11 +200,11 @@ impl<R: Files + Clone + Drop> FolderSource<R> {
     fn of_listed(
         rt: &R,
         alloc: Global,
-        places: Vec<String>,
+        places: Places,
         listed: ListedFiles,
     ) -> Result<FolderSource<R>, AllocError>
-        requires { vec_len listed.lengths ≡ vec_len places }
-        ensures { IfOk result (λ source. source ≡ map string_bytes places.items) }
+        requires { vec_len listed.lengths ≡ length places }
+        ensures { IfOk result (λ source. source ≡ places) }
     {
         Ok(FolderSource {
             rt: rt.clone()?,
@@ -239,7 +241,22 @@ impl<R: Files + Clone + Drop> FolderSource<R> {
     pub fn count(&self) -> usize
         ensures { result ≡ length self.now }
     {
-        self.places.len()
+        self.places.count()
+    }
+}
+
+impl<R: Files> FolderSource<R>
+where
+    R::File: FileExt,
+{
+    // How many bytes a file has now, of which the system is asked; None if it is not there.
+    fn length_now(&self, file: usize) -> io::Result<Option<u64>>
+        requires { file < length self.now }
+        ensures { IfErr result (λ fault. is_absence (error_kind fault) ≡ false) }
+    {
+        let mut place = Place::new();
+        self.places.write(file, &mut place)?;
+        regular::length_at(&self.rt, place.as_str())
     }
 }
 
@@ -272,15 +289,16 @@ where
             (λ fault. (file < length self.now) × (is_absence (error_kind fault) ≡ false)) }
         ensures past { length self.now ≤ file → result ≡ Ok None }
     {
-        let Some(place) = self.places.get(file as usize) else {
+        let file = file as usize;
+        if self.places.count() <= file {
             return Ok(None);
-        };
-        if let Some(met) = self.met.get(file as usize) {
-            return met.length_at(&self.rt, place);
         }
-        match self.listed.lengths.get(file as usize) {
+        if let Some(met) = self.met.get(file) {
+            return met.length_at(&self.rt, &self.places, file);
+        }
+        match self.listed.lengths.get(file) {
             Some(length) if 0 < *length => Ok(Some(*length)),
-            _ => regular::length_at(&self.rt, place),
+            _ => self.length_now(file),
         }
     }
 
@@ -289,17 +307,31 @@ where
         ensures gave { IfErr result (λ _. file < length self.now) }
         ensures past { length self.now ≤ file → result ≡ Ok 0 }
     {
-        let Some(place) = self.places.get(file as usize) else {
+        let file = file as usize;
+        if self.places.count() <= file {
             return Ok(0);
-        };
-        if let Some(met) = self.met.get(file as usize) {
-            return met.read_at(&self.rt, place, start, buffer);
         }
-        match self.listed.get(file as usize) {
-            Some(listed) => read_listed(&self.rt, place, &listed, start, buffer),
-            None => regular::read_at(&self.rt, place, start, buffer),
+        if let Some(met) = self.met.get(file) {
+            return met.read_at(&self.rt, &self.places, file, start, buffer);
+        }
+        let mut place = Place::new();
+        self.places.write(file, &mut place)?;
+        match self.listed.get(file) {
+            Some(listed) => read_listed(&self.rt, place.as_str(), &listed, start, buffer),
+            None => regular::read_at(&self.rt, place.as_str(), start, buffer),
         }
     }
+}
+
+// A copy of each of these paths.
+fn copies_of(alloc: Global, paths: &[FilePath]) -> Result<Vec<FilePath>, AllocError>
+    ensures { IfOk result (λ copies. copies.items ≡ paths.now) }
+{
+    let mut copies = Vec::with_capacity(alloc, paths.len())?;
+    for path in paths {
+        copies.push(path.copy(alloc)?)?;
+    }
+    Ok(copies)
 }
 
 // The files of a survey, if nothing is refused, or the fault of what was refused first.

@@ -1,10 +1,11 @@
 //! Files of the system that are read once and in order.
-ghost use Rattle.std.specs.Prelude.{◌≡◌, ◌≤◌, IfOk, length, map};
+ghost use Rattle.std.specs.Prelude.{◌≡◌, ◌≤◌, IfOk, length};
 ghost use Rattle.std.specs.Io.{ReadsAtMost};
 ghost use Rattle.std.specs.Io.KnownBytes.{ReadConsumes};
 ghost use Rattle.std.specs.String.{string_bytes};
 
 use crate::listed_file::{ListedFile, ListedFiles, changed, open_listed};
+use crate::places::Places;
 use crate::regular;
 use crate::unlinked::Met;
 use std::alloc::{AllocError, Global};
@@ -72,16 +73,16 @@ impl<R: Files> LazyFile<R> {
 pub(crate) fn readers_of<R: Files + Clone + Drop>(
     rt: &R,
     alloc: Global,
-    places: &[String],
+    places: &Places,
     listed: &ListedFiles,
     met: &[Met],
 ) -> Result<Vec<LazyFile<R>>, AllocError>
-    ensures { IfOk result (λ readers. readers.items ≡ map string_bytes places.now) }
+    ensures { IfOk result (λ readers. readers.items ≡ places.now) }
 {
-    let mut readers = Vec::with_capacity(alloc, places.len())?;
-    'places: for place in places {
-        let index = readers.len();
-        readers.push(reader_at(rt, alloc, place, met.get(index), listed.get(index))?)?;
+    let mut readers = Vec::with_capacity(alloc, places.count())?;
+    'files: for file in 0..places.count() {
+        let place = places.text(alloc, file)?;
+        readers.push(reader_at(rt, place, met.get(file), listed.get(file))?)?;
     }
     Ok(readers)
 }
@@ -89,44 +90,26 @@ pub(crate) fn readers_of<R: Files + Clone + Drop>(
 // A reader of the file at this place, which was met so, or of which this was told.
 fn reader_at<R: Files + Clone + Drop>(
     rt: &R,
-    alloc: Global,
-    place: &str,
+    place: String,
     met: Option<&Met>,
     listed: Option<ListedFile>,
 ) -> Result<LazyFile<R>, AllocError>
-    ensures { IfOk result (λ reader. reader ≡ place.now) }
+    ensures { IfOk result (λ reader. reader ≡ string_bytes place) }
 {
     match met {
-        Some(Met::Regular(listed)) => reader_of(rt, alloc, place, Some(*listed)),
-        Some(_) => no_reader_of(rt, alloc, place),
-        None => reader_of(rt, alloc, place, listed),
+        Some(Met::Regular(listed)) => Ok(LazyFile::new(rt.clone()?, place, Some(*listed))),
+        Some(_) => no_reader_of(rt, place),
+        None => Ok(LazyFile::new(rt.clone()?, place, listed)),
     }
 }
 
 // A reader of a place where no file is to be read: each read is a fault.
-fn no_reader_of<R: Files + Clone + Drop>(
-    rt: &R,
-    alloc: Global,
-    place: &str,
-) -> Result<LazyFile<R>, AllocError>
-    ensures { IfOk result (λ reader. reader ≡ place.now) }
+fn no_reader_of<R: Files + Clone + Drop>(rt: &R, place: String) -> Result<LazyFile<R>, AllocError>
+    ensures { IfOk result (λ reader. reader ≡ string_bytes place) }
 {
-    let mut reader = reader_of(rt, alloc, place, None)?;
+    let mut reader = LazyFile::new(rt.clone()?, place, None);
     reader.state = State::Failed;
     Ok(reader)
-}
-
-// A reader of the file at this place.
-fn reader_of<R: Files + Clone + Drop>(
-    rt: &R,
-    alloc: Global,
-    place: &str,
-    listed: Option<ListedFile>,
-) -> Result<LazyFile<R>, AllocError>
-    ensures { IfOk result (λ reader. reader ≡ place.now) }
-{
-    let place = String::from_str(alloc, place)?;
-    Ok(LazyFile::new(rt.clone()?, place, listed))
 }
 
 // The file at a place, opened. One that was listed has to be as it was; of one that was not, and that tells of no byte,

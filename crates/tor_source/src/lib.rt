@@ -27,11 +27,11 @@
 //!   buffer filled from a reader, or the [`FillFault`]; [`zeros`] (`buffer.rt`): room to read into.
 //! - [`laws`] (`laws.rt`): laws over the sources in memory, and the limits of an input.
 //!
-//! `walk.rt` finds the files below a folder, `named.rt` those of a list, both into `found.rt`; `folder_names.rt` reads the
-//! names in a folder, and `open_folders.rt` holds folders open meanwhile. `unlinked.rt` has a source
-//! that follows no link, and tells how its files stand. `places.rt` joins places and names,
-//! `regular.rt` reads what stands at a place, `listed_file.rt` a file that has to be as it was listed, and `same_file.rt`
-//! tells whether two places have one file.
+//! `walk.rt` finds the files below a folder, `named.rt` those of a list, both into `found.rt`; `folder_names.rt` reads
+//! the names in a folder, and `open_folders.rt` holds folders open meanwhile. `unlinked.rt` has a source that follows
+//! no link, and tells how its files stand. `places.rt` has the places of files, each joined when it is asked for,
+//! `regular.rt` reads what stands at a place, `listed_file.rt` a file that has to be as it was listed, and
+//! `same_file.rt` tells whether two places have one file.
 #![tactic(auto)]
 
 mod buffer;

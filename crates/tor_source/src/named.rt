@@ -1,7 +1,5 @@
 //! Files that are named one by one, looked for below a folder.
 ghost use Rattle.std.specs.Prelude.{◌≡◌, ◌≢◌, ◌≤◌, ◌++◌, ◌∷◌, ℕ, List, [], IfOk, OnOk, length, take};
-ghost use Rattle.std.specs.String.{string_bytes};
-ghost use Rattle.tor_source.specs.Places.{without_slash};
 ghost use Rattle.tor_source.specs.steps.Named.{HasLookedFor, IsSought};
 
 use crate::faults::{ScanFault, is_absence};
@@ -58,10 +56,9 @@ pub(crate) fn find<R: Files>(
 ) -> Result<FoundFiles, ScanFault>
 where
     R::File: AsRawFd,
-    ensures found { IfOk result (HasLookedFor files.now) }
-    ensures folder { IfOk result (λ found. string_bytes found.folder ≡ without_slash root.now) }
+    ensures { IfOk result (HasLookedFor files.now) }
 {
-    let mut found = none_found(alloc, root)?;
+    let mut found = none_found(alloc);
     let mut leading = LeadingFolders::at_top(rt, alloc, root)?;
     'files: for file in files {
         let sought = look_for(rt, alloc, &mut leading, file.names())?;
@@ -78,9 +75,8 @@ fn settle(
     found: &mut FoundFiles,
 ) -> Result<(), AllocError>
     requires { IsSought (length file.now) sought }
-    ensures found { (files : List (List (List ℕ))) → HasLookedFor files found.old →
+    ensures { (files : List (List (List ℕ))) → HasLookedFor files found.old →
         OnOk result (HasLookedFor (files ++ file.now ∷ []) found.new) }
-    ensures folder_stays { OnOk result (string_bytes found.new.folder ≡ string_bytes found.old.folder) }
 {
     match sought {
         Sought::File(listed) => add_file(alloc, listed, file.names(), found),

@@ -97,8 +97,8 @@ where
         }
     }
 
-    /// Holds the folder at a place open, in the last one that is, if it is not deeper than a file may be; and whether it
-    /// does.
+    /// Holds the folder at a place open, in the last one that is, if it is not deeper than a file may be; and whether
+    /// it does.
     pub(crate) fn go_into(
         &mut self,
         rt: &R,

@@ -1,43 +1,151 @@
 //! Where the system has files: a folder's place, and each name after a slash.
-ghost use Rattle.std.specs.Prelude.{◌≡◌, ◌∷◌, [], IfOk, map};
+ghost use Rattle.std.specs.Prelude.{◌≡◌, ◌<◌, ◌+◌, ◌++◌, ◌∷◌, [], IfErr, IfOk, OnOk, length, map, slice_index_or};
+ghost use Rattle.std.specs.IoError.{error_kind};
 ghost use Rattle.std.specs.String.{string_bytes};
+ghost use Rattle.std.specs.declared.io.ErrorKind.TheVariants.{InvalidFilename};
 ghost use Rattle.tor_source.specs.Places.{place_below, place_of, without_slash};
+ghost use Rattle.tor_source.specs.declared.faults.TheConstants.{MAX_PLACE};
 
+use crate::faults::MAX_PLACE;
+use arrayvec::ArrayString;
 use std::alloc::{AllocError, Global};
+use std::io;
+use std::marker::Model;
 use tor_tree::{FilePath, Name};
 
-/// The places of the files that paths lead to from a folder.
-pub(crate) fn places_of(
-    alloc: Global,
-    folder: &str,
-    files: &[FilePath],
-) -> Result<Vec<String>, AllocError>
-    ensures { IfOk result (λ places. map string_bytes places.items ≡ map (place_of folder.now) files.now) }
-{
-    let mut places = Vec::with_capacity(alloc, files.len())?;
-    'files: for file in files {
-        places.push(place_of(alloc, folder, file)?)?;
-    }
-    Ok(places)
+/// Where the system has files. Many files may share long names, so names are held, and a place is made each time it is
+/// asked for. Contracts see the list of the places.
+#[derive(Drop)]
+pub(crate) struct Places {
+    /// A folder's place, with no slash at its end; or that of all files.
+    folder: String,
+    files: Files,
 }
 
-/// The list of one place.
-pub(crate) fn one_place(alloc: Global, place: &str) -> Result<Vec<String>, AllocError>
-    ensures { IfOk result (λ places. map string_bytes places.items ≡ place.now ∷ []) }
-{
-    let place = String::from_str(alloc, place)?;
-    Ok(vec![in alloc; place]?)
+/// Which files have their places there.
+#[derive(Drop)]
+pub(crate) enum Files {
+    /// Each where its path leads to from the folder.
+    Below(Vec<FilePath>),
+    /// So many, all at this one place.
+    Here(usize),
 }
 
-/// The place of the file that the path leads to from a folder. The empty place is no folder: below it each file is at
-/// the empty place, where the system has nothing.
-pub(crate) fn place_of(alloc: Global, folder: &str, file: &FilePath) -> Result<String, AllocError>
-    ensures { IfOk result (λ place. string_bytes place ≡ place_of folder.now file.now) }
-{
-    if folder.is_empty() {
-        return Ok(String::new(alloc));
+/// A place that is no longer than the system takes.
+pub(crate) type Place = ArrayString<MAX_PLACE>;
+
+/// The number of the system's fault for a longer one (Linux, ENAMETOOLONG).
+const NAME_TOO_LONG: i32 = 36;
+
+impl Model for Places {
+    ghost use Rattle.std.specs.Prelude.{ℕ, List};
+    ghost use Rattle.std.specs.String.{string_bytes};
+    ghost use Rattle.tor_source.specs.steps.Placed.{placed};
+
+    ghost Value = { List (List ℕ) };
+
+    ghost view = { λ places. placed (string_bytes places.folder) places.files };
+}
+
+impl Places {
+    /// The places of the files that paths lead to from a folder. The empty place is no folder: below it each file is at
+    /// the empty place, where the system has nothing.
+    pub(crate) fn below(
+        alloc: Global,
+        folder: &str,
+        files: Vec<FilePath>,
+    ) -> Result<Places, AllocError>
+        ensures { IfOk result (λ places. places ≡ map (place_of folder.now) files.items) }
+    {
+        if folder.is_empty() {
+            let files = Files::Here(files.len());
+            let folder = String::new(alloc);
+            return Ok(Places { folder, files });
+        }
+        Ok(Places {
+            folder: String::from_str(alloc, without_slash(folder))?,
+            files: Files::Below(files),
+        })
     }
-    place_below(alloc, without_slash(folder), file.names())
+
+    /// The place of one file.
+    pub(crate) fn one(alloc: Global, place: &str) -> Result<Places, AllocError>
+        ensures { IfOk result (λ places. places ≡ place.now ∷ []) }
+    {
+        Ok(Places {
+            folder: String::from_str(alloc, place)?,
+            files: Files::Here(1),
+        })
+    }
+
+    /// How many files there are.
+    pub(crate) fn count(&self) -> usize
+        ensures { result ≡ length self.now }
+    {
+        match &self.files {
+            Files::Below(files) => files.len(),
+            Files::Here(count) => *count,
+        }
+    }
+
+    /// Writes the place of a file, in place of what was there. For one that is longer than the system takes, the fault
+    /// that the system would have is answered.
+    pub(crate) fn write(&self, file: usize, place: &mut Place) -> io::Result<()>
+        requires { file < length self.now }
+        ensures written { OnOk result (place.new.bytes ≡ slice_index_or self.now file []) }
+        ensures refused { IfErr result (λ fault. (error_kind fault ≡ InvalidFilename)
+            × (MAX_PLACE < length (slice_index_or self.now file []))) }
+    {
+        let (folder, names) = self.parts(file);
+        write_below(folder, names, place)
+    }
+
+    /// The place of a file, however long it is.
+    pub(crate) fn text(&self, alloc: Global, file: usize) -> Result<String, AllocError>
+        requires { file < length self.now }
+        ensures { IfOk result (λ text. string_bytes text ≡ slice_index_or self.now file []) }
+    {
+        let (folder, names) = self.parts(file);
+        place_below(alloc, folder, names)
+    }
+
+    // What the place of a file is put together from.
+    fn parts(&self, file: usize) -> (&str, &[Name])
+        requires { file < length self.now }
+        ensures { place_below result.0.now result.1.now ≡ slice_index_or self.now file [] }
+    {
+        match &self.files {
+            Files::Below(files) => (&self.folder, files[file].names()),
+            Files::Here(_) => (&self.folder, &[]),
+        }
+    }
+}
+
+// Writes a place, and each name after a slash, in place of what was there.
+fn write_below(place: &str, names: &[Name], text: &mut Place) -> io::Result<()>
+    ensures written { OnOk result (text.new.bytes ≡ place_below place.now names.now) }
+    ensures refused { IfErr result (λ fault. (error_kind fault ≡ InvalidFilename)
+        × (MAX_PLACE < length (place_below place.now names.now))) }
+{
+    text.clear();
+    append(place, text)?;
+    for name in names {
+        append("/", text)?;
+        append(name.as_str(), text)?;
+    }
+    Ok(())
+}
+
+// Appends to a place; if it is longer than the system takes then, that is the fault that the system has for it.
+fn append(more: &str, text: &mut Place) -> io::Result<()>
+    ensures appended { OnOk result (text.new.bytes ≡ text.old.bytes ++ more.now) }
+    ensures refused { IfErr result (λ fault. (error_kind fault ≡ InvalidFilename)
+        × (MAX_PLACE < length text.old.bytes + length more.now)) }
+{
+    match text.try_push_str(more) {
+        Ok(()) => Ok(()),
+        Err(_) => Err(io::Error::from_raw_os_error(NAME_TOO_LONG)),
+    }
 }
 
 /// A place, and each name after a slash.

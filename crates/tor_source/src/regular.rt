@@ -55,8 +55,8 @@ where
     }
 }
 
-/// The regular file at a place, opened to be read, and what the system told of it before. What is none is not opened: to
-/// open a FIFO would wait.
+/// The regular file at a place, opened to be read, and what the system told of it before. What is none is not opened:
+/// to open a FIFO would wait.
 pub(crate) fn open_at<R: Files>(rt: &R, place: &str) -> io::Result<(R::File, Metadata)> {
     let metadata = rt.metadata(place)?;
     if metadata.is_file() {

@@ -3,6 +3,7 @@ ghost use Rattle.std.specs.Prelude.{◌≡◌, ◌⊎◌, IfErr};
 ghost use Rattle.tor_source.specs.declared.faults.ScanFault.TheVariants.{Memory, System};
 
 use crate::faults::{ScanFault, is_absence_at};
+use crate::places::{Place, Places};
 use std::fs::Metadata;
 use std::io::ErrorKind;
 use std::os::unix::fs::MetadataExt;
@@ -12,13 +13,15 @@ use std::rt::Files;
 /// file, as has one whose links lead nowhere; of any other the system must tell.
 pub(crate) fn is_at_one_of<R: Files>(
     rt: &R,
-    places: &[String],
+    places: &Places,
     file: &Metadata,
 ) -> Result<bool, ScanFault>
     ensures { IfErr result (λ fault. (fault ≡ Memory) ⊎ (fault ≡ System)) }
 {
-    'places: for place in places {
-        if is_at(rt, place, file)? {
+    let mut place = Place::new();
+    for index in 0..places.count() {
+        places.write(index, &mut place)?;
+        if is_at(rt, place.as_str(), file)? {
             return Ok(true);
         }
     }

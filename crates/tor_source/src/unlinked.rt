@@ -1,6 +1,6 @@
 //! Files that are looked for below a folder while no link is followed: how each of them stands.
 ghost use Rattle.std.specs.IoError.{error_kind};
-ghost use Rattle.std.specs.Prelude.{◌≡◌, ◌≤◌, IfErr, IfOk, None, Ok, false, length, map, vec_len};
+ghost use Rattle.std.specs.Prelude.{◌≡◌, ◌<◌, ◌≤◌, IfErr, IfOk, None, Ok, false, length, map, vec_len};
 ghost use Rattle.tor_source.specs.Faults.{is_absence};
 ghost use Rattle.tor_source.specs.Places.{place_of};
 ghost use Rattle.tor_source.specs.declared.unlinked.Met.TheVariants.{Link, Nothing};
@@ -10,7 +10,7 @@ use crate::faults::{ScanFault, is_absence};
 use crate::folder::FolderSource;
 use crate::listed_file::{FileNumber, ListedFile, read_listed, untold};
 use crate::named::{LeadingFolders, Sought, look_for};
-use crate::places::places_of;
+use crate::places::{Place, Places};
 use crate::refused::{OtherKind, Refusal};
 use crate::regular::gives_byte;
 use std::alloc::{AllocError, Global};
@@ -22,9 +22,9 @@ use std::rt::Files;
 use tor_tree::FilePath;
 
 impl<R: Files + Clone + Drop> FolderSource<R> {
-    /// These files below the folder `place`, as `at` has them, but no link below it is followed: a file is not there
-    /// if a link stands at its place, or on the way to it, and is never opened. Each is looked for once, now, and read
-    /// as it was met. If `place` is no folder, no file is there. If the system did not tell of a file, its `length` is a
+    /// These files below the folder `place`, as `at` has them, but no link below it is followed: a file is not there if
+    /// a link stands at its place, or on the way to it, and is never opened. Each is looked for once, now, and read as
+    /// it was met. If `place` is no folder, no file is there. If the system did not tell of a file, its `length` is a
     /// fault. A link at `place` itself is followed.
     pub fn at_without_links(
         rt: &R,
@@ -39,8 +39,8 @@ impl<R: Files + Clone + Drop> FolderSource<R> {
         FolderSource::wanted_without_links(rt, alloc, place, files, &[])
     }
 
-    /// As `at_without_links`, but a file is looked for only if it is wanted, or nothing tells whether it is. One that is
-    /// not is not there.
+    /// As `at_without_links`, but a file is looked for only if it is wanted, or nothing tells whether it is. One that
+    /// is not is not there.
     pub fn wanted_without_links(
         rt: &R,
         alloc: Global,
@@ -53,7 +53,7 @@ impl<R: Files + Clone + Drop> FolderSource<R> {
         ensures { IfOk result (λ source. source ≡ map (place_of place.now) files.items) }
     {
         let met = met_below(rt, alloc, place, &files, wanted)?;
-        let places = places_of(alloc, place, &files)?;
+        let places = Places::below(alloc, place, files)?;
         let mut source = FolderSource::of_places(rt, alloc, places)?;
         source.met = met;
         Ok(source)
@@ -64,7 +64,7 @@ impl<R: Files + Clone + Drop> FolderSource<R> {
     pub fn is_behind_link(&self, file: usize) -> bool
         ensures { length self.now ≤ file → result ≡ false }
     {
-        file < self.places.len() && matches!(self.met.get(file), Some(Met::Link))
+        file < self.places.count() && matches!(self.met.get(file), Some(Met::Link))
     }
 }
 
@@ -82,39 +82,55 @@ pub(crate) enum Met {
 }
 
 impl Met {
-    /// How many bytes the file at a place has that was met so; None if it is not there. One that was empty is asked for
-    /// again, and has to be the same.
-    pub(crate) fn length_at<R: Files>(&self, rt: &R, place: &str) -> io::Result<Option<u64>>
+    /// How many bytes the file has that was met so; None if it is not there. One that was empty is asked for again, and
+    /// has to be the same.
+    pub(crate) fn length_at<R: Files>(
+        &self,
+        rt: &R,
+        places: &Places,
+        file: usize,
+    ) -> io::Result<Option<u64>>
     where
         R::File: FileExt,
+        requires { file < length places.now }
         ensures refused { IfErr result (λ fault. is_absence (error_kind fault) ≡ false) }
         ensures linked { self.now ≡ Link → result ≡ Ok None }
         ensures absent { self.now ≡ Nothing → result ≡ Ok None }
     {
         match self {
             Met::Regular(listed) if 0 < listed.length => Ok(Some(listed.length)),
-            Met::Regular(listed) => still_empty(rt, place, listed),
+            Met::Regular(listed) => {
+                let mut place = Place::new();
+                places.write(file, &mut place)?;
+                still_empty(rt, place.as_str(), listed)
+            }
             Met::Untold(kind) if !is_absence(*kind) => Err(io::Error::from(*kind)),
             _ => Ok(None),
         }
     }
 
-    /// One read of the file at a place that was met so. Nothing else than a regular file is opened.
+    /// One read of the file that was met so. Nothing else than a regular file is opened.
     pub(crate) fn read_at<R: Files>(
         &self,
         rt: &R,
-        place: &str,
+        places: &Places,
+        file: usize,
         start: u64,
         buffer: &mut [u8],
     ) -> io::Result<usize>
     where
         R::File: FileExt,
+        requires { file < length places.now }
         ensures within { IfOk result (λ count. count ≤ length buffer.old) }
         ensures linked { self.now ≡ Link → result ≡ Ok 0 }
         ensures absent { self.now ≡ Nothing → result ≡ Ok 0 }
     {
         match self {
-            Met::Regular(listed) => read_listed(rt, place, listed, start, buffer),
+            Met::Regular(listed) => {
+                let mut place = Place::new();
+                places.write(file, &mut place)?;
+                read_listed(rt, place.as_str(), listed, start, buffer)
+            }
             Met::Untold(kind) => Err(io::Error::from(*kind)),
             _ => Ok(0),
         }

@@ -1,11 +1,9 @@
 //! The files below a folder, in the order of their paths, and what is refused there.
-ghost use Rattle.std.specs.Prelude.{◌≡◌, ◌<◌, ◌≤◌, ◌∷◌, ◌++◌, ◌≢◌, ℕ};
+ghost use Rattle.std.specs.Prelude.{◌≡◌, ◌<◌, ◌∷◌, ◌++◌, ◌≢◌, ℕ};
 ghost use Rattle.std.specs.Prelude.{List, [], IfOk, OnOk, length, map, vec_items};
 ghost use Rattle.std.specs.List.Sorted.{IsStrictlySortedBy};
-ghost use Rattle.std.specs.String.{string_bytes};
 ghost use Rattle.tor_source.specs.steps.Order.{HasAdded, HasFound, IsAhead, IsEntered, IsStanding};
 ghost use Rattle.tor_source.specs.Faults.{fault_of_name, fault_of_refusal};
-ghost use Rattle.tor_source.specs.Places.{without_slash};
 ghost use Rattle.tor_tree.specs.declared.names.NameError.TheVariants.{Memory};
 ghost use Rattle.tor_tree.specs.Path.{name_cmp};
 
@@ -48,9 +46,9 @@ pub(crate) fn walk<R: Files>(
 ) -> Result<FoundFiles, ScanFault>
 where
     R::File: AsRawFd,
-    ensures { IfOk result (HasFound (without_slash root.now)) }
+    ensures { IfOk result HasFound }
 {
-    let mut found = none_found(alloc, root)?;
+    let mut found = none_found(alloc);
     let mut last = Vec::new(alloc);
     let mut open = OpenFolders::at_top(rt, alloc, root)?;
     let mut waiting = names_at_top(alloc, rising_names(alloc, open.top_names(rt, alloc)?)?)?;
@@ -98,11 +96,10 @@ fn enter<R: Files>(
 ) -> Result<(), ScanFault>
 where
     R::File: AsRawFd,
-    requires found { HasFound (string_bytes found.old.folder) found.old }
+    requires found { HasFound found.old }
     requires ahead { IsAhead found.old.paths.items last.old.items (waiting.old.items ++ entry ∷ []) }
-    ensures found { OnOk result (HasFound (string_bytes found.new.folder) found.new) }
+    ensures found { OnOk result (HasFound found.new) }
     ensures ahead { OnOk result (IsAhead found.new.paths.items last.new.items waiting.new.items) }
-    ensures folder_stays { OnOk result (string_bytes found.new.folder ≡ string_bytes found.old.folder) }
 {
     last.truncate(entry.depth);
     match Name::new(alloc, &entry.name) {
@@ -125,11 +122,10 @@ fn settle(
 ) -> Result<(), AllocError>
     requires some { names.now ≢ [] }
     requires standing { IsStanding (length names.now) standing }
-    requires found { HasFound (string_bytes found.old.folder) found.old }
+    requires found { HasFound found.old }
     requires entered { IsEntered found.old.paths.items names.now waiting.old.items }
-    ensures found { OnOk result (HasFound (string_bytes found.new.folder) found.new) }
+    ensures found { OnOk result (HasFound found.new) }
     ensures ahead { OnOk result (IsAhead found.new.paths.items names.now waiting.new.items) }
-    ensures folder_stays { OnOk result (string_bytes found.new.folder ≡ string_bytes found.old.folder) }
 {
     match standing {
         Standing::Folder(inside) => add_names(alloc, inside, names, waiting),

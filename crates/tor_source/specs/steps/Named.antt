@@ -1,19 +1,16 @@
 -- For the loop of `find` alone: files that were looked for below a folder.
 use Rattle.std.specs.Prelude.{◌≡◌, ◌≤◌, ℕ, List, length, map, vec_len}
 use Rattle.std.specs.List.{All}
-use Rattle.std.specs.String.{string_bytes}
 use Rattle.tor_source.specs.Named.{AreParted, path_of}
-use Rattle.tor_source.specs.Places.{place_below}
 use Rattle.tor_source.specs.declared.found.FoundFiles.{FoundFiles}
 use Rattle.tor_source.specs.declared.named.Sought.{Sought}
 use Rattle.tor_source.specs.declared.named.Sought.TheVariants.{File, NotTaken}
 use Rattle.tor_tree.specs.declared.paths.TheConstants.{MAX_NAMES}
 
--- of these files each was taken or refused, and each that was taken is where its path says, with at most 64 names
+-- of these files each was taken or refused, and each that was taken has at most 64 names
 pub record HasLookedFor (files : List (List (List ℕ))) (found : FoundFiles) : Type 0 where
   pub parted : AreParted files found.paths.items (map path_of found.refused.items)
   pub short : All (λ path. length path ≤ MAX_NAMES) found.paths.items
-  pub placed : map string_bytes found.places.items ≡ map (place_below (string_bytes found.folder)) found.paths.items
   pub told : vec_len found.listed.lengths ≡ length found.paths.items
 
 -- a file that so many names lead to is no deeper than it may be

@@ -2,11 +2,9 @@
 use Rattle.std.specs.Prelude.{◌≡◌, ◌≤◌, ◌<◌, ◌+◌, ◌++◌, ◌∷◌, [], ℕ, List, length, map, take, drop, vec_len}
 use Rattle.std.specs.List.{All, AllPairs}
 use Rattle.std.specs.List.Sorted.{IsStrictlySortedBy}
-use Rattle.std.specs.String.{string_bytes}
 use Rattle.std.specs.declared.cmp.Ordering.TheVariants.{Less}
 use Rattle.tor_tree.specs.Path.{name_cmp, path_cmp}
 use Rattle.tor_source.specs.steps.Listing.{HasSameNames}
-use Rattle.tor_source.specs.Places.{place_below}
 use Rattle.tor_source.specs.declared.walk.WaitingName.{WaitingName}
 use Rattle.tor_source.specs.declared.found.FoundFiles.{FoundFiles}
 use Rattle.tor_source.specs.declared.refused.Refusal.{Refusal}
@@ -15,26 +13,16 @@ use Rattle.tor_source.specs.declared.walk.Standing.{Standing}
 use Rattle.tor_source.specs.declared.walk.Standing.TheVariants.{File, Folder, NotTaken}
 use Rattle.tor_tree.specs.declared.paths.TheConstants.{MAX_NAMES}
 
--- files that were found below a place: their paths strictly rise and have at most 64 names, and each is where its
--- path says
-pub record IsFound (place : List ℕ) (paths : List (List (List ℕ))) (places : List (List ℕ)) : Type 0 where
-  pub rising : IsStrictlySortedBy path_cmp paths
-  pub short : All (λ path. length path ≤ MAX_NAMES) paths
-  pub placed : places ≡ map (place_below place) paths
-
--- and of each something was told
-abbrev pub HasFound : List ℕ → FoundFiles → Type 0
-HasFound place found =
-    IsFound place found.paths.items (map string_bytes found.places.items)
-    × (vec_len found.listed.lengths ≡ length found.paths.items)
+-- the paths of the files that were found strictly rise and have at most 64 names, and of each something was told
+pub record HasFound (found : FoundFiles) : Type 0 where
+  pub rising : IsStrictlySortedBy path_cmp found.paths.items
+  pub short : All (λ path. length path ≤ MAX_NAMES) found.paths.items
+  pub told : vec_len found.listed.lengths ≡ length found.paths.items
 
 -- the file that these names lead to was added
 pub record HasTaken (old : FoundFiles) (names : List (List ℕ)) (new : FoundFiles) : Type 0 where
   pub path : new.paths.items ≡ old.paths.items ++ names ∷ []
-  pub place : map string_bytes new.places.items
-      ≡ map string_bytes old.places.items ++ place_below (string_bytes old.folder) names ∷ []
   pub told : vec_len new.listed.lengths ≡ vec_len old.listed.lengths + 1
-  pub folder : string_bytes new.folder ≡ string_bytes old.folder
   pub refused : new.refused.items ≡ old.refused.items
 
 abbrev pub told_of : Refused → List ℕ × Refusal
@@ -43,9 +31,7 @@ told_of one = (one.path.items, one.refusal)
 -- something was refused, whose path has these bytes
 pub record HasRefused (old : FoundFiles) (path : List ℕ) (refusal : Refusal) (new : FoundFiles) : Type 0 where
   pub paths : new.paths.items ≡ old.paths.items
-  pub places : map string_bytes new.places.items ≡ map string_bytes old.places.items
   pub told : vec_len new.listed.lengths ≡ vec_len old.listed.lengths
-  pub folder : string_bytes new.folder ≡ string_bytes old.folder
   pub refused : map told_of new.refused.items ≡ map told_of old.refused.items ++ (path, refusal) ∷ []
 
 -- what so many names lead to: a folder has names that rise, and a file is no deeper than it may be

@@ -1,10 +1,8 @@
-use Rattle.std.proofs.Common.{take, add-one, ◌∙◌}
+use Rattle.std.proofs.Common.{take, add-one}
 use Rattle.std.proofs.Math.Seq.{take-suc}
 use Rattle.tor_source.proofs.named.find.Goals as goal
 
 pub files-preserved : goal.files-preserved
-files-preserved g c = (
-  rw (add-one, take-suc c.args.files.now c.files.file-index c.file-item.result c.files-test.true, ← c.file-item.is)
-      (c.in_ok-settle.ensures.found (take c.files.file-index c.args.files.now) c.files.invariant.0),
-  c.in_ok-settle.ensures.folder_stays ∙ c.files.invariant.1,
-)
+files-preserved g c =
+    rw (add-one, take-suc c.args.files.now c.files.file-index c.file-item.result c.files-test.true, ← c.file-item.is)
+    (c.in_ok-settle.ensures (take c.files.file-index c.args.files.now) c.files.invariant)

@@ -1,10 +1,7 @@
 -- each file so far was looked for
-use Rattle.std.proofs.Common.{◌≡◌, take}
-use Rattle.std.specs.String.{string_bytes}
-use Rattle.tor_source.specs.Places.{without_slash}
+use Rattle.std.proofs.Common.{take}
 use Rattle.tor_source.specs.steps.Named.{HasLookedFor}
 use Rattle.tor_source.proofs.named.find.Given as goal
 
 abbrev pub invariant-files : goal.invariant-files
-invariant-files g l =
-    HasLookedFor (take l.file-index l.files) l.found × (string_bytes l.found.folder ≡ without_slash l.root)
+invariant-files g l = HasLookedFor (take l.file-index l.files) l.found

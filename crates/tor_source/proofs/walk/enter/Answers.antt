@@ -10,7 +10,6 @@ returns-in-Err g c =
       ahead = rw (refused.paths, c.truncate.ensures.items)
           (ahead_unnamed c.args.found.now.paths.items c.args.last.now.items c.args.waiting.now.items c.args.entry
           c.requires.ahead);
-      folder_stays = refused.folder;
     }
 
 pub settle-requires-clause-entered : goal.settle-requires-clause-entered
