@@ -51,13 +51,13 @@ all_faults facts plan contents =
 -- units that are hashed each by itself
 module _ {F : Type 0} (is_steady : SourceFacts F → Type 0) (plan : PlanFacts) (told : List (Option ℕ)) where
   abbrev Each : List PlanUnit → List UnitPieces → Type 0
-  Each units hashes = SumUpEach (λ unit one. HashesPieces is_steady plan told unit (map hashes_in one.pieces.items))
+  Each units hashes = SumUpEach (λ unit one. HashesPieces is_steady plan told unit (map hashes_in one.pieces))
       units hashes
 
   pub hashes_joined : (facts : SourceFacts F) → is_steady facts
       → AreTold told (contents_in facts (length plan.lengths))
       → (units : List PlanUnit) (hashes : List UnitPieces) → Each units hashes
-      → flat_map (λ one. map hashes_in one.pieces.items) hashes
+      → flat_map (λ one. map hashes_in one.pieces) hashes
       ≡ flat_map (unit_hashes plan (contents_in facts (length plan.lengths))) units
   unfolding SumUpEach
   hashes_joined facts steady are [] [] each = refl
@@ -68,13 +68,13 @@ module _ {F : Type 0} (is_steady : SourceFacts F → Type 0) (plan : PlanFacts) 
 
   pub hashes_there : (units : List PlanUnit) (hashes : List UnitPieces) → Each units hashes
       → HaveHashesOf told (flat_map (pieces_of_unit plan.piece_length) units)
-      (flat_map (λ one. map hashes_in one.pieces.items) hashes)
+      (flat_map (λ one. map hashes_in one.pieces) hashes)
   unfolding SumUpEach
   hashes_there [] [] each = refl
   hashes_there [] (one ∷ hashes) each = absurd each
   hashes_there (unit ∷ units) [] each = absurd each
   hashes_there (unit ∷ units) (one ∷ hashes) each =
-      map-append is_some (map hashes_in one.pieces.items) (flat_map (λ one. map hashes_in one.pieces.items) hashes)
+      map-append is_some (map hashes_in one.pieces) (flat_map (λ one. map hashes_in one.pieces) hashes)
       ∙ ap₂ (λ xs ys. xs ++ ys) each.0.there (hashes_there units hashes each.1)
       ∙ sym (map-append (is_within told) (pieces_of_unit plan.piece_length unit)
       (flat_map (pieces_of_unit plan.piece_length) units))

@@ -8,6 +8,7 @@ pub mod Each
 pub mod Failing
 pub mod FileRows
 pub mod FoundReadable
+pub mod FoundRows
 pub mod GivenAnswers
 pub mod GivenInOrder
 pub mod GivenUnits

@@ -1,7 +1,7 @@
 -- Pieces whose SHA-1s are owed: each gets its own, and so does each unit of a worker.
 use Rattle.std.proofs.Common.{◌≡◌, ◌≤◌, ◌+◌, ℕ, List, [], ◌∷◌, ◌++◌, drop, length, map, take, sum_by, is_some, Option}
-use Rattle.std.proofs.Common.{refl, ap, ap₂, sym, subst, ◌∙◌, arith, suc}
-use Rattle.std.proofs.lemmas.List.{drop-take, take-take, with_items_is}
+use Rattle.std.proofs.Common.{refl, ap, ap₂, ◌∙◌, arith, suc}
+use Rattle.std.proofs.lemmas.List.{drop-take, take-take}
 use Rattle.std.proofs.lemmas.List.Sums.{sum_by-cons}
 use Rattle.tor_plan.specs.Pieces.{pieces_of_unit}
 use Rattle.tor_plan.specs.PlanFacts.{PlanFacts}
@@ -63,7 +63,7 @@ module _ {F : Type 0} (is_steady : SourceFacts F → Type 0) (plan : PlanFacts) 
       → owed_to_pieces one ≡ length own
   unit_fits unit one own =
       can_pay owed_to_piece paid_piece (FindsPiece is_steady plan told) (λ piece found own finds. finds.long)
-      (pieces_of_unit plan.piece_length unit) one.pieces.items own
+      (pieces_of_unit plan.piece_length unit) one.pieces own
 
   found_hashes : (facts : SourceFacts F) → is_steady facts → AreTold told (contents_in facts (length plan.lengths))
       → (pieces : List PlanUnit) (founds : List FoundPiece) → SumUpEach IsFound pieces founds
@@ -85,16 +85,13 @@ module _ {F : Type 0} (is_steady : SourceFacts F → Type 0) (plan : PlanFacts) 
       ap₂ (λ x xs. x ∷ xs) each.0.1 (found_there pieces founds each.1)
 
   pub unit_settled : (unit : PlanUnit) (one : UnitPieces) (own : List ℕ) → OwePieces is_steady plan told unit one own
-      → HashesPieces is_steady plan told unit (map hashes_in (paid_pieces one own).pieces.items)
+      → HashesPieces is_steady plan told unit (map hashes_in (paid_pieces one own).pieces)
   unit_settled unit one own owes =
       let pieces = pieces_of_unit plan.piece_length unit in
-      let founds = paid_each owed_to_piece paid_piece one.pieces.items own in
+      let founds = paid_each owed_to_piece paid_piece one.pieces own in
       let each = paid_up owed_to_piece paid_piece (FindsPiece is_steady plan told) (λ piece found own finds. finds.long)
-      IsFound piece_settled pieces one.pieces.items own owes in
-      let is = with_items_is one.pieces founds
-      (paid_length owed_to_piece paid_piece one.pieces.items own ∙ sym one.pieces.ok.0) in
+      IsFound piece_settled pieces one.pieces own owes in
       record {
-        steady = λ facts steady are.
-            ap (map hashes_in) is ∙ found_hashes facts steady are pieces founds each;
-        there = ap (λ xs. map is_some (map hashes_in xs)) is ∙ found_there pieces founds each;
+        steady = λ facts steady are. found_hashes facts steady are pieces founds each;
+        there = found_there pieces founds each;
       }

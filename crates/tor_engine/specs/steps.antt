@@ -1,8 +1,10 @@
 pub mod Asked
 pub mod Failing
+pub mod FoundRow
 pub mod Hashed
 pub mod Pieces
 pub mod Readable
 pub mod RowSums
 pub mod Taken
 pub mod Unsummed
+pub mod UnitHashes

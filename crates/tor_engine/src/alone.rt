@@ -37,7 +37,7 @@ pub(crate) fn find_unit<S: FileBytes>(
     ensures owing { OnOk result (Owes plan.now [] worker.new) }
     ensures number { IfOk result (λ found. found.unit ≡ number) }
     ensures hashed { IfOk result (λ found. HashesPieces (S.is_steady source.now) plan.now known.now.lengths.items
-        unit.now (map hashes_in found.pieces.items)) }
+        unit.now (map hashes_in found.pieces)) }
     ensures fault { (facts : SourceFacts S.Fault) → S.is_steady source.now facts →
         AreTold known.now.lengths.items (contents_in facts (length plan.now.lengths)) →
         MatchResult result

@@ -13,9 +13,10 @@
 //!   `tor_sums`.
 //! - [`work`] (`worker_share.rt`): one worker at a board, for callers with threads of their own.
 //! - [`hash_pieces`] (`pieces.rt`): what each piece hashes to ([`PieceHash`], `piece_hash.rt`), of files that may be
-//!   cut short or missing; [`find_pieces`] tells their lengths too, and [`find_pieces_between`] does so for some units.
-//!   `asked.rt` asks for the lengths, `present.rt` tells what is there by them, and `piece_work.rt` hashes the pieces
-//!   of a unit, one after the other, or together if the unit is wholly there (`together.rt`).
+//!   cut short or missing; [`find_pieces`] tells their lengths too, and [`find_pieces_between`] does so for some units,
+//!   both with the hashes held unit by unit ([`PieceHashes`], `piece_hashes.rt`). `asked.rt` asks for the lengths,
+//!   `present.rt` tells what is there by them, and `piece_work.rt` hashes the pieces of a unit, one after the other, or
+//!   together if the unit is wholly there (`together.rt`); `found_row.rt` holds what was found of a unit.
 //! - [`find_readable`] (`readable.rt`): the same as far as the pieces can be read ([`ReadablePieces`]), and what could
 //!   not be ([`ReadFault`], `read_fault.rt`). `asking.rt` asks for the lengths, `seen.rt` is the source without the
 //!   files whose lengths fail, and `readable_work.rt` hashes a unit at once, and after a fault each of its pieces by
@@ -43,12 +44,14 @@ mod asked;
 mod asking;
 mod engine;
 mod failure;
+mod found_row;
 mod halves;
 pub mod laws;
 mod lengths;
 mod lot;
 mod on_board;
 mod piece_hash;
+mod piece_hashes;
 mod piece_work;
 mod pieces;
 mod present;
@@ -71,6 +74,7 @@ pub use engine::{hash_all, hash_told};
 pub use lengths::ask_lengths;
 pub use lot::{PieceRow, hash_lot};
 pub use piece_hash::PieceHash;
+pub use piece_hashes::{HashesLeft, PieceHashes};
 pub use pieces::{FoundPieces, find_pieces, find_pieces_between, hash_pieces};
 pub use read_fault::ReadFault;
 pub use readable::{ReadablePieces, find_readable};

@@ -16,6 +16,7 @@ ghost use Rattle.tor_engine.specs.steps.Pieces.{AreTold, HashesPieces, IsPadding
 ghost use Rattle.tor_engine.specs.steps.Pieces.{unit_pieces_fault};
 ghost use Rattle.tor_engine.specs.steps.Unsummed.{FindsPiece, OwePieces, owed_to_pieces, paid_pieces};
 
+use crate::found_row::FoundRow;
 use crate::piece_hash::{FoundPiece, PieceHash, piece_of_tree};
 use crate::present::is_there;
 use crate::together::{find_together, is_together};
@@ -40,7 +41,7 @@ pub(crate) struct Known {
 pub(crate) struct UnitPieces {
     /// The unit's number.
     pub(crate) unit: u64,
-    pub(crate) pieces: Vec<FoundPiece>,
+    pub(crate) pieces: FoundRow,
 }
 
 impl Owed for UnitPieces {
@@ -49,7 +50,7 @@ impl Owed for UnitPieces {
     ghost paid = { paid_pieces };
 
     fn take_own<'a>(&mut self, sums: &'a [u8]) -> &'a [u8] {
-        pay(self.pieces.as_mut_slice(), sums)
+        self.pieces.take_own(sums)
     }
 }
 
@@ -78,7 +79,7 @@ impl<'a, S: FileBytes> UnitWork for PieceWork<'a, S> {
         unit_pieces_fault facts work.plan.now (contents_in facts (length work.plan.now.lengths)) unit };
 
     ghost sums_up = { λ work unit sums. HashesPieces (S.is_steady work.source.now) work.plan.now
-        work.known.now.lengths.items unit (map hashes_in sums.pieces.items) };
+        work.known.now.lengths.items unit (map hashes_in sums.pieces) };
 
     ghost stands = { λ work units sums worker. (owed : List ℕ) × Owes work.plan.now owed worker
         × OweEach (OwePieces (S.is_steady work.source.now) work.plan.now work.known.now.lengths.items)
@@ -107,9 +108,9 @@ impl<'a, S: FileBytes> UnitWork for PieceWork<'a, S> {
         worker: &mut OwingSums,
     ) -> Result<UnitPieces, EngineError<S::Fault>> {
         match find_pieces_of(self.alloc, self.source, self.plan, self.known, unit, worker) {
-            Ok(pieces) => Ok(UnitPieces {
+            Ok(found) => Ok(UnitPieces {
                 unit: number,
-                pieces,
+                pieces: FoundRow::of(found),
             }),
             Err(error) => Err(error),
         }

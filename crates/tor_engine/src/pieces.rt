@@ -1,8 +1,7 @@
 //! The pieces of a plan hashed, of files that may be cut short or missing, and the lengths of these files.
-ghost use Rattle.std.specs.Prelude.{◌≡◌, ◌++◌, ◌^◌, ◌≤◌, ℕ, All, List, None, Option, IfErr, IfOk, IsSome, MatchResult, OnOk, length};
-ghost use Rattle.std.specs.Prelude.{map};
+ghost use Rattle.std.specs.Prelude.{◌≡◌, ◌^◌, ◌≤◌, ℕ, All, List, None, Option, IfErr, IfOk, IsSome, MatchResult, OnOk, length};
 ghost use Rattle.std.specs.Prelude.{nat_le};
-ghost use Rattle.std.specs.List.{flat_map, list_any};
+ghost use Rattle.std.specs.List.{list_any};
 ghost use Rattle.tor_source.specs.Source.{SourceFacts};
 ghost use Rattle.tor_sums.specs.Contents.{contents_in};
 ghost use Rattle.tor_sums.specs.Fault.{IsFault};
@@ -16,12 +15,13 @@ ghost use Rattle.tor_engine.specs.There.{HasHashesWithin, HaveHashesOf};
 ghost use Rattle.tor_plan.specs.PlanFacts.{IsPlan};
 ghost use Rattle.tor_sums.specs.steps.Given.{IsGivenKnown};
 ghost use Rattle.tor_engine.specs.steps.Pieces.{IsPaddingSum, IsUnitToHash, MayHavePadding};
-ghost use Rattle.tor_engine.specs.steps.Pieces.{has_long_zeros, hashes_in};
+ghost use Rattle.tor_engine.specs.steps.Pieces.{has_long_zeros};
 
 use crate::asked::{ask_each, expect_each};
 use crate::lot::units_between;
-use crate::piece_hash::{FoundPiece, PieceHash};
-use crate::piece_work::{Known, PieceWork, UnitPieces};
+use crate::piece_hash::PieceHash;
+use crate::piece_hashes::PieceHashes;
+use crate::piece_work::{Known, PieceWork};
 use crate::units::hash_units;
 use std::alloc::{AllocError, Global};
 use std::thread::Threads;
@@ -35,7 +35,7 @@ use tor_v1::laws::length_of_sums;
 #[derive(Drop)]
 pub struct FoundPieces {
     /// What each piece of the plan hashes to, in their order, and none if some byte of it is not there.
-    pub hashes: Vec<Option<PieceHash>>,
+    pub hashes: PieceHashes,
     /// The length in bytes of each file of the plan, in their order, and none of one that is missing.
     pub lengths: Vec<Option<u64>>,
 }
@@ -64,7 +64,7 @@ pub fn hash_pieces<S: Source, R: Threads + Sync>(
     ensures gave { IfErr result (IsGivenPieces (S.answers source.now) (length plan.now.lengths)) }
 {
     match find_pieces(rt, alloc, source, plan, how) {
-        Ok(found) => Ok(found.hashes),
+        Ok(found) => Ok(joined(alloc, &found.hashes)?),
         Err(error) => Err(error),
     }
 }
@@ -82,13 +82,13 @@ pub fn find_pieces<S: Source, R: Threads + Sync>(
     requires { IsHow how }
     ensures hashed { (facts : SourceFacts S.Fault) → S.is_steady source.now facts →
         MatchResult result
-        (λ found. (found.hashes.items ≡ piece_hashes plan.now (contents_in facts (length plan.now.lengths)))
+        (λ found. (found.hashes ≡ piece_hashes plan.now (contents_in facts (length plan.now.lengths)))
         × (found.lengths.items ≡ lengths_told facts (length plan.now.lengths))
         × (first_piece_fault facts plan.now ≡ None))
         (IsFault (first_piece_fault facts plan.now)) }
     ensures told { IfOk result (λ found. HasTold (S.answers source.now) found.lengths.items) }
-    ensures there { IfOk result (λ found. HasHashesWithin plan.now found.lengths.items found.hashes.items) }
-    ensures counted { IfOk result (λ found. (length found.hashes.items ≡ length (pieces_of_plan plan.now))
+    ensures there { IfOk result (λ found. HasHashesWithin plan.now found.lengths.items found.hashes) }
+    ensures counted { IfOk result (λ found. (length found.hashes ≡ length (pieces_of_plan plan.now))
         × (length found.lengths.items ≡ length plan.now.lengths)) }
     ensures gave { IfErr result (IsGivenPieces (S.answers source.now) (length plan.now.lengths)) }
 {
@@ -126,14 +126,14 @@ pub fn find_pieces_between<S: Source, R: Threads + Sync>(
     requires within { to ≤ length plan.now.units }
     ensures hashed { (facts : SourceFacts S.Fault) → S.is_steady source.now facts →
         MatchResult result
-        (λ found. (found.hashes.items ≡ hashes_of_units plan.now (contents_in facts (length plan.now.lengths))
+        (λ found. (found.hashes ≡ hashes_of_units plan.now (contents_in facts (length plan.now.lengths))
         (units_between from to plan.now.units))
         × (found.lengths.items ≡ lengths_told facts (length plan.now.lengths))
         × (units_piece_fault facts plan.now (units_between from to plan.now.units) ≡ None))
         (IsFault (units_piece_fault facts plan.now (units_between from to plan.now.units))) }
     ensures told { IfOk result (λ found. HasTold (S.answers source.now) found.lengths.items) }
     ensures there { IfOk result (λ found. HaveHashesOf found.lengths.items
-        (pieces_of_units plan.now.piece_length (units_between from to plan.now.units)) found.hashes.items) }
+        (pieces_of_units plan.now.piece_length (units_between from to plan.now.units)) found.hashes) }
     ensures counted { IfOk result (λ found. length found.lengths.items ≡ length plan.now.lengths) }
     ensures gave { IfErr result (IsGivenPieces (S.answers source.now) (length plan.now.lengths)) }
 {
@@ -166,7 +166,7 @@ fn hash_known<S: Source, R: Threads + Sync>(
     units: &[PlanUnit],
     known: &Known,
     how: How,
-) -> Result<Vec<Option<PieceHash>>, EngineError<S::Fault>>
+) -> Result<PieceHashes, EngineError<S::Fault>>
     requires planned { IsPlan plan.now }
     requires units { All (IsUnitToHash plan.now) units.now }
     requires few { length units.now ≤ 2 ^ 62 }
@@ -176,15 +176,15 @@ fn hash_known<S: Source, R: Threads + Sync>(
         known.now.lengths.items ≡ lengths_told facts (length plan.now.lengths) →
         first_asked_fault facts (length plan.now.lengths) ≡ None →
         MatchResult result
-        (λ hashes. (hashes.items ≡ hashes_of_units plan.now (contents_in facts (length plan.now.lengths)) units.now)
+        (λ hashes. (hashes ≡ hashes_of_units plan.now (contents_in facts (length plan.now.lengths)) units.now)
         × (units_piece_fault facts plan.now units.now ≡ None))
         (IsFault (units_piece_fault facts plan.now units.now)) }
     ensures unchanged { (facts : SourceFacts S.Fault) → S.is_steady source.now facts →
         OnOk result (known.now.lengths.items ≡ lengths_told facts (length plan.now.lengths)) }
     ensures there { IfOk result (λ hashes. HaveHashesOf known.now.lengths.items
-        (pieces_of_units plan.now.piece_length units.now) hashes.items) }
+        (pieces_of_units plan.now.piece_length units.now) hashes) }
     ensures counted { IfOk result (λ hashes.
-        length hashes.items ≡ length (pieces_of_units plan.now.piece_length units.now)) }
+        length hashes ≡ length (pieces_of_units plan.now.piece_length units.now)) }
     ensures gave { IfErr result (IsGivenKnown (S.answers source.now) known.now.lengths.items) }
 {
     let work = PieceWork {
@@ -197,7 +197,7 @@ fn hash_known<S: Source, R: Threads + Sync>(
     let forest = Forest {
         trees: Vec::new(alloc),
     };
-    let (hashes, _) = match hash_units(rt, &work, units, &forest, how) {
+    let (units_hashed, _) = match hash_units(rt, &work, units, &forest, how) {
         Ok(hashed) => hashed,
         Err(error) => return Err(error),
     };
@@ -205,8 +205,7 @@ fn hash_known<S: Source, R: Threads + Sync>(
         Ok(()) => {}
         Err(error) => return Err(error),
     }
-    let joined = hashes_of_pieces(alloc, &hashes)?;
-    Ok(joined)
+    Ok(PieceHashes::of(units_hashed))
 }
 
 /// The SHA-1 of a whole piece of padding, if the plan may have one.
@@ -244,29 +243,14 @@ fn has_long_zeros_after(parts: &[Part], piece_length: u64) -> bool
     parts.iter().any(|part| part.zeros >= piece_length)
 }
 
-/// The hashes of the pieces of all units, one after the other.
-fn hashes_of_pieces(
-    alloc: Global,
-    units: &[UnitPieces],
-) -> Result<Vec<Option<PieceHash>>, AllocError>
-    ensures { IfOk result (λ all. all.items ≡ flat_map (λ unit. map hashes_in unit.pieces.items) units.now) }
+/// The same hashes in one list.
+fn joined(alloc: Global, hashes: &PieceHashes) -> Result<Vec<Option<PieceHash>>, AllocError>
+    ensures { IfOk result (λ all. all.items ≡ hashes.now) }
 {
     let mut all = Vec::new(alloc);
-    'units: for unit in units {
-        push_hashes(&mut all, &unit.pieces)?;
+    let mut left = hashes.each();
+    while let Some(hash) = left.next() {
+        all.push(hash)?;
     }
     Ok(all)
-}
-
-/// Adds the hashes of pieces.
-pub(crate) fn push_hashes(
-    all: &mut Vec<Option<PieceHash>>,
-    pieces: &[FoundPiece],
-) -> Result<(), AllocError>
-    ensures { IfOk result (λ _. all.new.items ≡ all.old.items ++ map hashes_in pieces.now) }
-{
-    'pieces: for piece in pieces {
-        all.push(piece.hashes())?;
-    }
-    Ok(())
 }

@@ -15,9 +15,9 @@ ghost use Rattle.tor_engine.specs.steps.Pieces.{IsPaddingSum};
 ghost use Rattle.tor_engine.specs.steps.Readable.{FindsReadable, seen_may_be, seen_steady, unit_hashes_in};
 
 use crate::asking::{ask_readable, expect_readable};
-use crate::piece_hash::PieceHash;
+use crate::piece_hashes::PieceHashes;
 use crate::piece_work::Known;
-use crate::pieces::{padding_sum, push_hashes};
+use crate::pieces::padding_sum;
 use crate::read_fault::ReadFault;
 use crate::readable_work::{ReadableUnit, ReadableWork};
 use crate::seen::Seen;
@@ -33,7 +33,7 @@ use tor_sums::{EngineError, How, append};
 pub struct ReadablePieces<F> {
     /// What each piece of the plan hashes to, in their order, and none if some byte of it is not there, or could not be
     /// read.
-    pub hashes: Vec<Option<PieceHash>>,
+    pub hashes: PieceHashes,
     /// The length in bytes of each file of the plan, in their order, and none of one that is missing, or whose length
     /// could not be asked.
     pub lengths: Vec<Option<u64>>,
@@ -57,7 +57,7 @@ pub fn find_readable<S: Source, R: Threads + Sync>(
 ) -> Result<ReadablePieces<S::Fault>, EngineError<S::Fault>>
     requires { IsHow how }
     ensures readable { (facts : SourceFacts S.Fault) → S.is_steady source.now facts →
-        IfOk result (λ found. (found.hashes.items ≡ readable_hashes facts plan.now)
+        IfOk result (λ found. (found.hashes ≡ readable_hashes facts plan.now)
         × (found.lengths.items ≡ seen_lengths facts (length plan.now.lengths))
         × (found.faults.items ≡ all_read_faults facts plan.now)) }
     ensures refused { (facts : SourceFacts S.Fault) → S.is_steady source.now facts →
@@ -65,10 +65,10 @@ pub fn find_readable<S: Source, R: Threads + Sync>(
     ensures told { IfOk result (λ found. (file : ℕ) → file < length found.lengths.items →
         IsSeenLength (S.answers source.now) file (slice_index_or found.lengths.items file None)) }
     ensures within { IfOk result (λ found.
-        SumUpEach (HasHashWithin found.lengths.items) (pieces_of_plan plan.now) found.hashes.items) }
+        SumUpEach (HasHashWithin found.lengths.items) (pieces_of_plan plan.now) found.hashes) }
     ensures clean { IfOk result (λ found. found.faults.items ≡ [] → HasTold (S.answers source.now) found.lengths.items
-        × HasHashesWithin plan.now found.lengths.items found.hashes.items) }
-    ensures counted { IfOk result (λ found. (length found.hashes.items ≡ length (pieces_of_plan plan.now))
+        × HasHashesWithin plan.now found.lengths.items found.hashes) }
+    ensures counted { IfOk result (λ found. (length found.hashes ≡ length (pieces_of_plan plan.now))
         × (length found.lengths.items ≡ length plan.now.lengths)) }
     ensures given { IfOk result (λ found. AllByRecursion (λ fault.
         IsGivenPieces (S.answers source.now) (length plan.now.lengths) (error_of_fault fault)) found.faults.items) }
@@ -106,13 +106,13 @@ fn hash_readable<S: Source, R: Threads + Sync>(
     plan: &Plan,
     known: &Known,
     how: How,
-) -> Result<(Vec<Option<PieceHash>>, Vec<ReadFault<S::Fault>>), EngineError<S::Fault>>
+) -> Result<(PieceHashes, Vec<ReadFault<S::Fault>>), EngineError<S::Fault>>
     requires padding { IsPaddingSum plan.now known.now.padding_sum }
     requires counted { length known.now.lengths.items ≡ length plan.now.lengths }
     ensures found { IfOk result (λ found.
         FindsReadable (seen_steady known.now.lengths.items (S.is_steady source.now))
         (seen_may_be known.now.lengths.items (S.answers source.now)) plan.now known.now.lengths.items
-        (pieces_of_plan plan.now) found.0.items found.1.items) }
+        (pieces_of_plan plan.now) found.0 found.1.items) }
     ensures refused { (facts : SourceFacts S.Fault) → S.is_steady source.now facts →
         known.now.lengths.items ≡ seen_lengths facts (length plan.now.lengths) →
         IfErr result (λ error. error ≡ Resources) }
@@ -146,15 +146,15 @@ fn hash_readable<S: Source, R: Threads + Sync>(
 fn join_units<F: Drop>(
     alloc: Global,
     units: Vec<ReadableUnit<F>>,
-) -> Result<(Vec<Option<PieceHash>>, Vec<ReadFault<F>>), AllocError>
-    ensures hashes { IfOk result (λ joined. joined.0.items ≡ flat_map unit_hashes_in units.items) }
+) -> Result<(PieceHashes, Vec<ReadFault<F>>), AllocError>
+    ensures hashes { IfOk result (λ joined. joined.0 ≡ flat_map unit_hashes_in units.items) }
     ensures faults { IfOk result (λ joined. joined.1.items ≡ flat_map (λ one. one.faults.items) units.items) }
 {
-    let mut hashes = Vec::new(alloc);
+    let mut found = Vec::with_capacity(alloc, units.len())?;
     let mut faults = Vec::new(alloc);
     'units: for unit in units {
-        push_hashes(&mut hashes, &unit.found.pieces)?;
+        found.push(unit.found)?;
         append(&mut faults, unit.faults)?;
     }
-    Ok((hashes, faults))
+    Ok((PieceHashes::of(found), faults))
 }

@@ -13,6 +13,7 @@ ghost use Rattle.tor_engine.specs.steps.Pieces.{AreTold, IsPaddingSum, IsPiece, 
 ghost use Rattle.tor_engine.specs.steps.Readable.{FindsReadable, FindsUnit};
 
 use crate::alone::{find_alone, find_unit};
+use crate::found_row::FoundRow;
 use crate::piece_hash::FoundPiece;
 use crate::piece_work::{Known, UnitPieces};
 use crate::probing::faults_of;
@@ -169,7 +170,7 @@ fn find_each<S: FileBytes>(
     Ok(ReadableUnit {
         found: UnitPieces {
             unit: number,
-            pieces: found,
+            pieces: FoundRow::of(found),
         },
         faults,
     })

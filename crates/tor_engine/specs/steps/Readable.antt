@@ -70,11 +70,11 @@ abbrev pub FindsUnit : {F : Type 0} → (SourceFacts F → Type 0) → (EngineEr
     → List (Option ℕ) → PlanUnit → ReadableUnit F → Type 0
 FindsUnit is_steady may_be plan told unit one =
     FindsReadable is_steady may_be plan told (pieces_of_unit plan.piece_length unit)
-    (map hashes_in one.found.pieces.items) one.faults.items
+    (map hashes_in one.found.pieces) one.faults.items
 
 -- the hashes of the pieces of a unit
 abbrev pub unit_hashes_in : {F : Type 0} → ReadableUnit F → List (Option PieceHash)
-unit_hashes_in one = map hashes_in one.found.pieces.items
+unit_hashes_in one = map hashes_in one.found.pieces
 
 -- a file of which a length was told is changed: another was told
 abbrev pub IsLeft : {F : Type 0} → Answers F → List (Option ℕ) → EngineError F → Type 0

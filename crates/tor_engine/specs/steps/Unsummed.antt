@@ -2,7 +2,6 @@
 use Rattle.std.specs.Prelude.{◌≡◌, ◌∷◌, ◌<◌, [], ℕ, List, length, is_some, slice_index_or, sum_by, true, Option, None}
 use Rattle.std.specs.Prelude.{Some}
 use Rattle.std.specs.Prelude.{if◌then◌else◌}
-use Rattle.std.specs.Vec.{with_items}
 use Rattle.tor_plan.specs.Pieces.{pieces_of_unit}
 use Rattle.tor_plan.specs.PlanFacts.{PlanFacts}
 use Rattle.tor_plan.specs.declared.units.Part.{Part}
@@ -32,18 +31,18 @@ pub record FindsPiece {F : Type 0} (is_steady : SourceFacts F → Type 0) (plan 
 
 -- what is owed to the pieces of a unit
 abbrev pub owed_to_pieces : UnitPieces → ℕ
-owed_to_pieces one = sum_by owed_to_piece one.pieces.items
+owed_to_pieces one = sum_by owed_to_piece one.pieces
 
 -- the unit, with these
 abbrev pub paid_pieces : UnitPieces → List ℕ → UnitPieces
 paid_pieces one own =
-    record { unit = one.unit; pieces = with_items one.pieces (paid_each owed_to_piece paid_piece one.pieces.items own) }
+    record { unit = one.unit; pieces = paid_each owed_to_piece paid_piece one.pieces own }
 
 -- these were found of the pieces of a unit, and so much is owed to them
 abbrev pub OwePieces : {F : Type 0} → (SourceFacts F → Type 0) → PlanFacts → List (Option ℕ) → PlanUnit → UnitPieces
     → List ℕ → Type 0
 OwePieces is_steady plan told unit one own =
-    OweEach (FindsPiece is_steady plan told) (pieces_of_unit plan.piece_length unit) one.pieces.items own
+    OweEach (FindsPiece is_steady plan told) (pieces_of_unit plan.piece_length unit) one.pieces own
 
 -- the pieces of a unit can be hashed together: the kind has trees, its file is longer than a piece, and all its bytes
 -- are there by the lengths that were told

@@ -49,6 +49,6 @@ returns-clause-hashed g c =
     ap (take (owed_to_pieces found)) same
     ∙ take_all (owed_to_pieces found) stands.0
     (omega (arith, unit_fits is_steady plan told unit found stands.0 owes)) in
-    subst (λ (one : UnitPieces). HashesPieces is_steady plan told unit (map hashes_in one.pieces.items))
+    subst (λ (one : UnitPieces). HashesPieces is_steady plan told unit (map hashes_in one.pieces))
     (sym (c.take_own.ensures.paid ∙ ap (paid_pieces found) own))
     (unit_settled is_steady plan told unit found stands.0 owes)

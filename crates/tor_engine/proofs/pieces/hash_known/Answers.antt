@@ -1,11 +1,9 @@
 -- the pieces, and the lengths again
 use Rattle.std.proofs.Common.{List, length, map, is_some, inl, inr, ap, subst, sym, ◌∙◌}
-use Rattle.std.specs.List.{flat_map}
 use Rattle.tor_plan.specs.Forest.{AreRuns}
 use Rattle.tor_plan.specs.declared.forests.Run.{Run}
 use Rattle.tor_sums.specs.Contents.{contents_in}
 use Rattle.tor_engine.specs.steps.Asked.{first_again_fault}
-use Rattle.tor_engine.specs.steps.Pieces.{hashes_in}
 use Rattle.tor_engine.proofs.AllPieces.{are_told, fault_of_units, hashes_counted, hashes_flat, hashes_joined}
 use Rattle.tor_engine.proofs.AllPieces.{hashes_there}
 use Rattle.tor_engine.proofs.AskedLengths.{again_same, same_again}
@@ -33,7 +31,7 @@ returns-clause-hashed g c = λ facts steady told none.
     let contents = contents_in facts (length plan.lengths) in
     let sizes = c.args.known.now.lengths.items in
     let known = are_told facts sizes (length plan.lengths) told in (
-      c.in_ok-joined.ensures ∙ ap (flat_map (λ one. map hashes_in one.pieces.items)) c.deref-2.ensures.value
+      c.of.ensures
           ∙ hashes_joined (g.S.Source.is_steady c.args.source.now) plan sizes facts steady known _ _
           c.in-Ok.ensures.summed
           ∙ hashes_flat plan contents units,
@@ -44,13 +42,13 @@ pub returns-clause-there : goal.returns-clause-there
 returns-clause-there g c =
     let plan = c.args.plan.now in
     let sizes = c.args.known.now.lengths.items in
-    ap (map is_some) (c.in_ok-joined.ensures ∙ ap (flat_map (λ one. map hashes_in one.pieces.items)) c.deref-2.ensures.value)
+    ap (map is_some) c.of.ensures
     ∙ hashes_there (g.S.Source.is_steady c.args.source.now) plan sizes _ _ c.in-Ok.ensures.summed
 
 pub returns-clause-counted : goal.returns-clause-counted
 returns-clause-counted g c =
     let plan = c.args.plan.now in
-    ap length (c.in_ok-joined.ensures ∙ ap (flat_map (λ one. map hashes_in one.pieces.items)) c.deref-2.ensures.value)
+    ap length c.of.ensures
     ∙ hashes_counted c.args.known.now.lengths.items _ _
     (hashes_there (g.S.Source.is_steady c.args.source.now) plan c.args.known.now.lengths.items _ _
     c.in-Ok.ensures.summed)

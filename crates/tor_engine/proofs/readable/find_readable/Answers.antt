@@ -69,7 +69,7 @@ returns-clause-clean g c = λ none.
 pub returns-clause-counted : goal.returns-clause-counted
 returns-clause-counted g c = (
   sym (each_length (HasHashWithin c.in_ok-lengths.lengths.items) (pieces_of_plan c.args.plan.now)
-      c.in-Ok.found.0.items c.in-Ok.ensures.found.within),
+      c.in-Ok.found.0 c.in-Ok.ensures.found.within),
   c.in_ok-lengths.ensures.counted ∙ ap length c.lengths.ensures,
 )
 

@@ -50,4 +50,4 @@ returns-clause-found g c =
     (take_all c.pieces.piece-index items c.pieces-test.false
     ∙ c.as_slice-piece-items.ensures.value ∙ c.in_ok-pieces.ensures
     ∙ ap (λ p. pieces_of_unit p c.args.unit.now) c.piece_length.ensures)
-    refl refl c.pieces.invariant.found
+    (sym (ap (map hashes_in) c.of.ensures)) refl c.pieces.invariant.found

@@ -36,7 +36,7 @@ returns-clause-summed g c = λ units stands.
     ∙ ap (paid_each owed_to_pieces paid_pieces old.items) same in
     let long = ap length paid ∙ paid_length owed_to_pieces paid_pieces old.items stands.0 in
     subst (λ (sums : List UnitPieces). SumUpEach (λ unit one. HashesPieces is_steady work.plan.now told unit
-    (map hashes_in one.pieces.items)) units sums)
+    (map hashes_in one.pieces)) units sums)
     (sym (written_whole old.items c.pay.new.items old.len long old.ok.0 ∙ paid))
     (paid_up owed_to_pieces paid_pieces (OwePieces is_steady work.plan.now told) (unit_fits is_steady work.plan.now told)
     _ (unit_settled is_steady work.plan.now told) units old.items stands.0 stands.2)

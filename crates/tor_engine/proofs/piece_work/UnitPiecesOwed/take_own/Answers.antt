@@ -1,7 +1,5 @@
 -- its pieces get their own
 use Rattle.std.proofs.Common.{List, ap, sym, ◌∙◌}
-use Rattle.std.specs.Vec.{with_items}
-use Rattle.tor_sums.specs.steps.Owing.{paid_each}
 use Rattle.tor_engine.specs.declared.piece_hash.FoundPiece.{FoundPiece}
 use Rattle.tor_engine.specs.declared.piece_work.UnitPieces.{UnitPieces}
 use Rattle.tor_engine.specs.steps.Pieces.{owed_to_piece, paid_piece}
@@ -9,12 +7,10 @@ use Rattle.tor_engine.proofs.Unsummed.{paid_front}
 use Rattle.tor_engine.proofs.piece_work.UnitPiecesOwed.take_own.Goals as goal
 
 abbrev with_founds : UnitPieces → List FoundPiece → UnitPieces
-with_founds one founds = record { unit = one.unit; pieces = with_items one.pieces founds }
+with_founds one founds = record { unit = one.unit; pieces = founds }
 
 pub returns-clause-paid : goal.returns-clause-paid
 returns-clause-paid c =
     let one = c.args.self.now in
     ap (with_founds one)
-    (c.pay.ensures.paid
-    ∙ ap (λ founds. paid_each owed_to_piece paid_piece founds c.args.sums.now) c.as_mut_slice.ensures.value
-    ∙ sym (paid_front owed_to_piece paid_piece one.pieces.items c.args.sums.now))
+    (c.take_own.ensures.paid ∙ sym (paid_front owed_to_piece paid_piece one.pieces c.args.sums.now))

@@ -23,7 +23,7 @@ returns-in-Ok-clause-stands g c = λ units before each.
       c.in-Ok.ensures.owing,
       each_next (FindsUnit is_steady may_be plan told) units c.args.unit.now before _ each.1
           (finds_as is_steady may_be plan told refl refl (sym c.new-faults.ensures.items)
-          (finds_clean is_steady may_be plan told pieces (map hashes_in c.in-Ok.found.pieces.items)
+          (finds_clean is_steady may_be plan told pieces (map hashes_in c.in-Ok.found.pieces)
           c.in-Ok.ensures.hashed.steady c.in-Ok.ensures.hashed.there c.in-Ok.ensures.fault)),
     )
 
