@@ -36,6 +36,8 @@ pub mod SpanBytes
 pub mod PartsOfFiles
 pub mod MissingFiles
 pub mod Sums
+pub mod ToldLeft
+pub mod JudgedTo
 pub mod Within
 pub mod SpanFits
 pub mod BadRanges

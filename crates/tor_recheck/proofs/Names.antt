@@ -10,7 +10,7 @@ pub use Rattle.std.proofs.Math.Bool.{beq}
 pub use Rattle.std.proofs.Math.ListN.{drop_of_length-le, get_or-map, set}
 pub use Rattle.std.proofs.Math.Nat.{add-mul-div_right, add-mul-mod_self_right, div-div-eq-div-mul, mod-lt, mod_self}
 pub use Rattle.std.proofs.Math.Nat.{pow-suc, zero-div, zero-mod}
-pub use Rattle.std.proofs.Math.Seq.{take-append-add}
+pub use Rattle.std.proofs.Math.Seq.{drop-append-add, take-append-add}
 pub use Rattle.std.proofs.lemmas.Bool.{and_from, and_parts, and_right, cases_Bool, cases_eq, cases_lt, cond-false}
 pub use Rattle.std.proofs.lemmas.Bool.{cond-true, eqb-true, false≢true, le-leb, le-ltb, leb-true, lt-leb, lt-ltb}
 pub use Rattle.std.proofs.lemmas.Bool.{and_left, eq-eqb, ltb-false, ltb-true, ne_eqb, not-false, or_parts, true≢false}
@@ -94,7 +94,7 @@ pub use Rattle.tor_recheck.specs.declared.spans.FileSpan.{FileSpan}
 pub use Rattle.tor_recheck.specs.steps.FileBytes.{IsSpanOf, with_range}
 pub use Rattle.tor_recheck.specs.steps.Hashes.{hashes_in}
 pub use Rattle.tor_recheck.specs.steps.Judge.{all_held, all_judged, all_merkle_judged, is_found, is_merkle_found}
-pub use Rattle.tor_recheck.specs.steps.Judge.{is_told, judged, merkle_judged, texts_of}
+pub use Rattle.tor_recheck.specs.steps.Judge.{is_told, judged, merkle_judged}
 pub use Rattle.tor_recheck.specs.steps.Packed.{AreBytes, Grows, KeepsBits, packed_bit, packed_bits}
 pub use Rattle.tor_recheck.specs.steps.Spans.{span_of_entry}
 pub use Rattle.tor_source.specs.Source.{SourceFacts, told_length, unless_fault}

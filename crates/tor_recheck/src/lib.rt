@@ -11,7 +11,8 @@
 //! ```
 //!
 //! - [`recheck`] (`rechecking.rt`): a bit for each piece of a torrent, or a [`RecheckError`] (`errors.rt`).
-//!   `merkle_hashes.rt` has the Merkle hashes that the torrent gives, by which `piece_bits.rt` judges those of the files.
+//!   `piece_bits.rt` judges the hashes of the pieces by those that the torrent gives, of which `merkle_hashes.rt` goes
+//!   through the Merkle hashes.
 //! - [`recheck_files`] (`rechecking_files.rt`): the same bits, and what is told of each file ([`FileFound`],
 //!   [`FileState`]), as [`files_of`] (`files.rt`) tells it by the pieces that hold and by the lengths that are there.
 //!   `spans.rt` has which pieces have bytes of a file.

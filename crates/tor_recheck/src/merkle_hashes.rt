@@ -1,39 +1,70 @@
 //! The Merkle hashes that a torrent has for its pieces.
-ghost use Rattle.std.specs.Prelude.{◌≡◌, ◌<◌, ◌++◌, [], IfOk, OnOk, List, ℕ, Option, map, slice_index_or, unwrap_or};
-ghost use Rattle.tor_recheck.specs.Pieces.{hashes_of_file, told_hashes};
-ghost use Rattle.tor_recheck.specs.steps.Judge.{texts_of};
+ghost use Rattle.std.specs.Prelude.{◌≡◌, ◌<◌, [], drop, slice_index_or, unwrap_or};
+ghost use Rattle.tor_recheck.specs.Pieces.{told_hashes};
 ghost use Rattle.tor_spec.specs.Verified.{told_hash};
 
-use std::alloc::{AllocError, Global};
+use std::marker::Model;
 use tor_check::{Torrent, ViewFile};
 use tor_merkle::Hash;
 
-/// For each piece of each file: of a file longer than a piece the hash at its index in the layer, of another the root
-/// of the file; none if the torrent has none.
-pub(crate) fn told_hashes(alloc: Global, torrent: &Torrent) -> Result<Vec<Option<Hash>>, AllocError>
-    ensures { IfOk result (λ told. texts_of told.items ≡ told_hashes torrent.now) }
-{
-    let mut told = Vec::new(alloc);
-    'files: for file in torrent.files() {
-        add_told(torrent.piece_length(), file, &mut told)?;
-    }
-    Ok(told)
+/// The Merkle hashes that a torrent has for those pieces that were not passed yet, file by file. Each is read where the
+/// torrent holds it, since a torrent of half a megabyte may claim millions of pieces. Contracts see the list of their
+/// bytes, which are none if the torrent has no hash for a piece.
+#[derive(Drop)]
+pub(crate) struct ToldHashes<'a> {
+    piece_length: u64,
+    files: &'a [ViewFile],
+    /// How many of the first pieces of these files were passed.
+    passed: u64,
 }
 
-/// Adds the hashes of the pieces of one file.
-fn add_told(
-    piece_length: u64,
-    file: &ViewFile,
-    told: &mut Vec<Option<Hash>>,
-) -> Result<(), AllocError>
-    requires { 0 < piece_length }
-    ensures { OnOk result
-        (texts_of told.new.items ≡ texts_of told.old.items ++ hashes_of_file piece_length file.now) }
-{
-    'pieces: for index in 0..file.file().length.div_ceil(piece_length) {
-        told.push(told_at(piece_length, file, index))?;
+impl<'a> Model for ToldHashes<'a> {
+    ghost use Rattle.std.specs.Prelude.{◌<◌, List, ℕ, drop};
+    ghost use Rattle.std.specs.List.{flat_map};
+    ghost use Rattle.tor_recheck.specs.Pieces.{hashes_of_file};
+
+    ghost Value = { List (List ℕ) };
+
+    ghost view = { λ told. drop told.passed (flat_map (hashes_of_file told.piece_length) told.files.now) };
+
+    ghost invariant = { λ told. 0 < told.piece_length };
+}
+
+impl<'a> ToldHashes<'a> {
+    /// Those of all pieces of a torrent.
+    pub(crate) fn of(torrent: &'a Torrent) -> ToldHashes<'a>
+        ensures { result ≡ told_hashes torrent.now }
+    {
+        ToldHashes {
+            piece_length: torrent.piece_length(),
+            files: torrent.files(),
+            passed: 0,
+        }
     }
-    Ok(())
+
+    /// That of the next piece: of a file longer than a piece the hash at its index in the layer, of another the root
+    /// of the file. None if the torrent has none for it, or no piece is left.
+    pub(crate) fn next(&mut self) -> Option<Hash>
+        ensures hash { unwrap_or result [] ≡ slice_index_or self.old 0 [] }
+        ensures later { self.new ≡ drop 1 self.old }
+    {
+        let piece_length = self.piece_length;
+        let mut files = self.files;
+        let mut passed = self.passed;
+        'left: while let Some((file, later)) = files.split_first() {
+            let count = file.file().length.div_ceil(piece_length);
+            if passed < count {
+                self.files = files;
+                self.passed = passed + 1;
+                return told_at(piece_length, file, passed);
+            }
+            passed -= count;
+            files = later;
+        }
+        self.files = files;
+        self.passed = passed;
+        None
+    }
 }
 
 /// The hash of the piece at this index of a file; none if the torrent has none.
@@ -45,11 +76,4 @@ fn told_at(piece_length: u64, file: &ViewFile, index: u64) -> Option<Hash>
     } else {
         file.file().root
     }
-}
-
-/// The hash of the piece at this index of all pieces; none if the torrent has none.
-pub(crate) fn root_at(told: &[Option<Hash>], index: usize) -> Option<Hash>
-    ensures { unwrap_or result [] ≡ slice_index_or (texts_of told.now) index [] }
-{
-    told.get(index).copied().flatten()
 }

@@ -1,14 +1,14 @@
 //! The hashes of pieces judged by those of a torrent.
-ghost use Rattle.std.specs.Prelude.{◌≡◌, [], IfOk, map, unwrap_or};
+ghost use Rattle.std.specs.Prelude.{◌≡◌, [], IfOk, unwrap_or};
 ghost use Rattle.std.specs.Str.{bytes_eq};
 ghost use Rattle.tor_recheck.specs.steps.Judge.{all_judged, all_merkle_judged, is_found, is_merkle_found};
 ghost use Rattle.tor_recheck.specs.steps.Judge.{is_told};
 
 use crate::bits::Bits;
-use crate::merkle_hashes::{root_at, told_hashes};
+use crate::merkle_hashes::ToldHashes;
 use std::alloc::{AllocError, Global};
 use tor_check::Torrent;
-use tor_engine::PieceHash;
+use tor_engine::{PieceHash, PieceHashes};
 use tor_merkle::Hash;
 
 /// The length of a SHA-1.
@@ -18,16 +18,17 @@ const SUM_LENGTH: usize = 20;
 pub(crate) fn verified_bits(
     alloc: Global,
     torrent: &Torrent,
-    hashes: &[Option<PieceHash>],
+    hashes: &PieceHashes,
 ) -> Result<Bits, AllocError>
     ensures { IfOk result (λ bits. bits ≡ all_judged torrent.now hashes.now) }
 {
-    let told = told_hashes(alloc, torrent)?;
-    let mut bits = Bits::with_capacity(alloc, hashes.len() as u64)?;
+    let mut bits = Bits::with_capacity(alloc, torrent.piece_count())?;
+    let mut told = ToldHashes::of(torrent);
     let mut sums = torrent.pieces();
-    'pieces: for (index, hash) in hashes.iter().enumerate() {
+    let mut left = hashes.each();
+    'judging: while let Some(hash) = left.next() {
         let (sum, later) = sums.split_at(sums.len().min(SUM_LENGTH));
-        bits.push(is_found(hash, sum, root_at(&told, index)))?;
+        bits.push(is_found(&hash, sum, told.next()))?;
         sums = later;
     }
     Ok(bits)
@@ -37,14 +38,15 @@ pub(crate) fn verified_bits(
 pub(crate) fn merkle_verified_bits(
     alloc: Global,
     torrent: &Torrent,
-    hashes: &[Option<PieceHash>],
+    hashes: &PieceHashes,
 ) -> Result<Bits, AllocError>
     ensures { IfOk result (λ held. held ≡ all_merkle_judged torrent.now hashes.now) }
 {
-    let told = told_hashes(alloc, torrent)?;
-    let mut held = Bits::with_capacity(alloc, hashes.len() as u64)?;
-    'pieces: for (index, hash) in hashes.iter().enumerate() {
-        held.push(is_merkle_found(hash, root_at(&told, index)))?;
+    let mut held = Bits::with_capacity(alloc, torrent.piece_count())?;
+    let mut told = ToldHashes::of(torrent);
+    let mut left = hashes.each();
+    'judging: while let Some(hash) = left.next() {
+        held.push(is_merkle_found(&hash, told.next()))?;
     }
     Ok(held)
 }

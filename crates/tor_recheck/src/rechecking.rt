@@ -71,14 +71,14 @@ pub(crate) fn found_in<S: Source, R: Threads + Sync>(
     ensures workers { (IsHow how → ⊥) → result ≡ Err Workers }
     ensures hashed { IsHow how → (facts : SourceFacts S.Fault) → S.is_steady source.now facts →
         MatchResult result
-        (λ found. (found.hashes.items ≡ hashes_in torrent.now (contents_in facts (length torrent.now.files)))
+        (λ found. (found.hashes ≡ hashes_in torrent.now (contents_in facts (length torrent.now.files)))
         × (found.lengths.items ≡ lengths_told facts (length torrent.now.files))
         × (first_fault facts torrent.now ≡ None))
         (IsFault (first_fault facts torrent.now)) }
     ensures told { IfOk result (λ found. HasTold (S.answers source.now) found.lengths.items) }
     ensures there { IfOk result
-        (λ found. HaveHashesOf found.lengths.items (pieces_of torrent.now) found.hashes.items) }
-    ensures counted { IfOk result (λ found. (length found.hashes.items ≡ torrent.now.piece_count)
+        (λ found. HaveHashesOf found.lengths.items (pieces_of torrent.now) found.hashes) }
+    ensures counted { IfOk result (λ found. (length found.hashes ≡ torrent.now.piece_count)
         × (length found.lengths.items ≡ length torrent.now.files)) }
     ensures cut { OnOk result (IsCut torrent.now) }
     ensures allowed { IsHow how → IfErr result (λ error. error ≢ Workers) }

@@ -75,9 +75,9 @@ pub(crate) fn files_by(
     found: &FoundPieces,
     right: &Bits,
 ) -> Result<Vec<FileFound>, AllocError>
-    requires { right.now ≡ all_judged torrent.now found.now.hashes.items }
+    requires { right.now ≡ all_judged torrent.now found.now.hashes }
     ensures found { IfOk result (λ files. files.items
-        ≡ files_found torrent.now found.now.lengths.items (all_held torrent.now found.now.hashes.items)) }
+        ≡ files_found torrent.now found.now.lengths.items (all_held torrent.now found.now.hashes)) }
     ensures counted { IfOk result (λ files. length files.items ≡ length torrent.now.files) }
 {
     if !torrent.kind().has_v2() {

@@ -1,7 +1,6 @@
 //! A torrent's pieces looked for by many machines: each looks for those of its own lot.
-ghost use Rattle.std.specs.Prelude.{◌≡◌, ◌≢◌, ◌+◌, ◌-◌, ◌<◌, ◌≤◌, ◌^◌, ◌++◌, Err, IfErr, IfOk, MatchResult, None, drop};
-ghost use Rattle.std.specs.Prelude.{length};
-ghost use Rattle.std.specs.Prelude.{replicate, take};
+ghost use Rattle.std.specs.Prelude.{◌≡◌, ◌≢◌, ◌+◌, ◌-◌, ◌<◌, ◌≤◌, ◌^◌, Err, IfErr, IfOk, MatchResult, None, drop};
+ghost use Rattle.std.specs.Prelude.{length, take};
 ghost use Rattle.tor_recheck.specs.Lots.{IsOfLot, first_lot_fault, first_of_lot, in_lot, lot_byte};
 ghost use Rattle.tor_recheck.specs.Recheck.{IsFault, IsGiven};
 ghost use Rattle.tor_recheck.specs.declared.errors.RecheckError.TheVariants.{Workers};
@@ -18,7 +17,7 @@ use crate::rechecking::plan_of;
 use std::alloc::{AllocError, Global};
 use std::thread::Threads;
 use tor_check::Torrent;
-use tor_engine::{How, PieceHash, find_pieces_between};
+use tor_engine::{How, PieceHashes, find_pieces_between};
 use tor_plan::PlanUnit;
 use tor_source::Source;
 
@@ -62,7 +61,7 @@ pub fn recheck_lot<S: Source, R: Threads + Sync>(
         Ok(found) => found,
         Err(error) => return Err(error.into()),
     };
-    let hashes = hashes_after(alloc, from, &found.hashes)?;
+    let hashes = PieceHashes::after(alloc, from, found.hashes)?;
     let bits = verified_bits(alloc, torrent, &hashes)?;
     Ok(bits_between(alloc, &bits, from, to)?)
 }
@@ -115,19 +114,6 @@ fn between(units: &[PlanUnit], from: usize, to: usize) -> &[PlanUnit]
     let (_, later) = units.split_at(from);
     let (own, _) = later.split_at(to - from);
     own
-}
-
-/// These hashes after so many pieces that have none.
-fn hashes_after(
-    alloc: Global,
-    count: usize,
-    hashes: &[Option<PieceHash>],
-) -> Result<Vec<Option<PieceHash>>, AllocError>
-    ensures { IfOk result (λ all. all.items ≡ replicate count None ++ hashes.now) }
-{
-    let mut all = vec![in alloc; None; count]?;
-    all.extend_from_slice(hashes)?;
-    Ok(all)
 }
 
 /// The bits from one piece on, and before another.

@@ -94,7 +94,7 @@ fn readable_in<S: Source, R: Threads + Sync>(
 ) -> Result<ReadablePieces<S::Fault>, RecheckError<S::Fault>>
     ensures workers { (IsHow how → ⊥) → result ≡ Err Workers }
     ensures hashed { IsHow how → (facts : SourceFacts S.Fault) → S.is_steady source.now facts →
-        IfOk result (λ found. (found.hashes.items ≡ map
+        IfOk result (λ found. (found.hashes ≡ map
         (hash_if_readable facts (cut_plan torrent.now) (contents_seen facts torrent.now)) (pieces_of torrent.now))
         × (found.lengths.items ≡ seen_lengths facts (length torrent.now.files))
         × (found.faults.items ≡ faults_seen facts torrent.now)) }
@@ -103,8 +103,8 @@ fn readable_in<S: Source, R: Threads + Sync>(
     ensures told { IfOk result (λ found. (file : ℕ) → file < length found.lengths.items →
         IsSeenLength (S.answers source.now) file (slice_index_or found.lengths.items file None)) }
     ensures within { IfOk result (λ found.
-        SumUpEach (HasHashWithin found.lengths.items) (pieces_of torrent.now) found.hashes.items) }
-    ensures counted { IfOk result (λ found. (length found.hashes.items ≡ torrent.now.piece_count)
+        SumUpEach (HasHashWithin found.lengths.items) (pieces_of torrent.now) found.hashes) }
+    ensures counted { IfOk result (λ found. (length found.hashes ≡ torrent.now.piece_count)
         × (length found.lengths.items ≡ length torrent.now.files)) }
     ensures given { IfOk result (λ found.
         AllByRecursion (IsGivenFault (S.answers source.now) (length torrent.now.files)) found.faults.items) }

@@ -1,6 +1,6 @@
 -- How the hashes of pieces are judged by those of a torrent. Only private clauses cite these.
 use Rattle.std.specs.Prelude.{ℕ, Bool, true, false, ◌&&◌, List, [], length, map, slice_index_or, Option, None, Some}
-use Rattle.std.specs.Prelude.{unwrap_or, if◌then◌else◌}
+use Rattle.std.specs.Prelude.{if◌then◌else◌}
 use Rattle.std.specs.List.{range_with_len}
 use Rattle.std.specs.Str.{bytes_eq}
 use Rattle.tor_engine.specs.declared.piece_hash.PieceHash.{PieceHash}
@@ -8,10 +8,6 @@ use Rattle.tor_merkle.specs.Block.{run_at}
 use Rattle.tor_recheck.specs.Pieces.{told_hashes}
 use Rattle.tor_spec.specs.valid.View.{View}
 use Rattle.tor_tree.specs.Kinds.{has_v2}
-
--- hashes as their bytes, none where there is no hash
-abbrev pub texts_of : List (Option (List ℕ)) → List (List ℕ)
-texts_of hashes = map (λ hash. unwrap_or hash []) hashes
 
 -- a hash, where there is one, is that of the torrent
 abbrev pub is_told : Option (List ℕ) → List ℕ → Bool

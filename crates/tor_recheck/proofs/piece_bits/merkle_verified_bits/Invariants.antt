@@ -1,6 +1,11 @@
 -- the pieces so far were judged
-use Rattle.tor_recheck.proofs.Names.{◌≡◌, map, range_with_len, merkle_judged}
+use Rattle.tor_recheck.proofs.Names.{length, told_hashes, merkle_judged}
+use Rattle.tor_recheck.proofs.JudgedTo.{AreJudgedTo}
 use Rattle.tor_recheck.proofs.piece_bits.merkle_verified_bits.Given as goal
 
-abbrev pub invariant-pieces : goal.invariant-pieces
-invariant-pieces l = l.held ≡ map (merkle_judged l.torrent l.hashes) (range_with_len 0 l.index)
+abbrev pub decreases-judging : goal.decreases-judging
+decreases-judging l = length l.left
+
+abbrev pub invariant-judging : goal.invariant-judging
+invariant-judging l =
+    AreJudgedTo (merkle_judged l.torrent l.hashes) l.hashes l.left (told_hashes l.torrent) l.told l.held

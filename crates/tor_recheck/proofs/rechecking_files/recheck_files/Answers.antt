@@ -15,10 +15,9 @@ returns-clause-found g c = λ how facts steady.
     let view = c.args.torrent.now in
     let cut = c.in-Ok.ensures.cut in
     let contents = contents_in facts (length view.files) in
-    let hashes = c.in-Ok.found.hashes.items in
+    let hashes = c.in-Ok.found.hashes in
     let found = c.in-Ok.ensures.hashed how facts steady in
     let bits = c.in_ok-bits.ensures
-    ∙ ap (all_judged view) c.deref.ensures.value
     ∙ judged_is_verified view contents cut hashes found.0 in
     let held = judged_is_held view contents cut hashes found.0 in
     (bits, c.in_ok-files.ensures.found ∙ ap₂ (files_found view) found.1 held, found.2)
@@ -26,8 +25,8 @@ returns-clause-found g c = λ how facts steady.
 pub returns-clause-counted : goal.returns-clause-counted
 returns-clause-counted g c =
     let view = c.args.torrent.now in (
-      ap length (c.in_ok-bits.ensures ∙ ap (all_judged view) c.deref.ensures.value)
-          ∙ count_of_judged view c.in-Ok.found.hashes.items
+      ap length c.in_ok-bits.ensures
+          ∙ count_of_judged view c.in-Ok.found.hashes
           ∙ c.in-Ok.ensures.counted.0,
       c.in_ok-files.ensures.counted,
     )
@@ -39,22 +38,21 @@ returns-clause-told g c =
     let count : length lengths ≡ length (file_spans view) =
     c.in-Ok.ensures.counted.1 ∙ sym (spans_are_counted view c.in-Ok.ensures.cut) in
     let told = ap (map (λ (file : FileFound). file.there)) c.in_ok-files.ensures.found
-    ∙ lengths_kept view lengths (all_held view c.in-Ok.found.hashes.items) count in
+    ∙ lengths_kept view lengths (all_held view c.in-Ok.found.hashes) count in
     subst (λ (sizes : List (Option ℕ)). HasTold (g.S.Source.answers c.args.source.now) sizes) (sym told)
     c.in-Ok.ensures.told
 
 pub returns-clause-there : goal.returns-clause-there
 returns-clause-there g c =
     let view = c.args.torrent.now in
-    let hashes = c.in-Ok.found.hashes.items in
+    let hashes = c.in-Ok.found.hashes in
     let lengths = c.in-Ok.found.lengths.items in
     let held = all_held view hashes in
     let count : length lengths ≡ length (file_spans view) =
     c.in-Ok.ensures.counted.1 ∙ sym (spans_are_counted view c.in-Ok.ensures.cut) in
     let told = ap (map (λ (file : FileFound). file.there)) c.in_ok-files.ensures.found
     ∙ lengths_kept view lengths held count in
-    let right : c.in_ok-bits.bits ≡ all_judged view hashes =
-    c.in_ok-bits.ensures ∙ ap (all_judged view) c.deref.ensures.value in
+    let right : c.in_ok-bits.bits ≡ all_judged view hashes = c.in_ok-bits.ensures in
     record {
       held = held;
       files = c.in_ok-files.ensures.found ∙ ap (λ (sizes : List (Option ℕ)). files_found view sizes held) (sym told);

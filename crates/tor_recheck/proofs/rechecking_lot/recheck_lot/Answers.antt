@@ -1,8 +1,8 @@
 -- those of the lot
-use Rattle.tor_recheck.proofs.Names.{◌∙◌, ◌++◌, ◌+◌, ◌-◌, ℕ, Bool, List, None, Option, ap, ap₂, arith, drop, length}
+use Rattle.tor_recheck.proofs.Names.{◌∙◌, ◌+◌, ◌-◌, ℕ, Bool, List, ap, ap₂, arith, drop, length}
 use Rattle.tor_recheck.proofs.Names.{map}
-use Rattle.tor_recheck.proofs.Names.{has_bytes_of, list_any, ones, range_with_len, refl, replicate, subst, sym, take}
-use Rattle.tor_recheck.proofs.Names.{all_judged, IsFault, PieceHash, PlanUnit, option_map, of_engine_error}
+use Rattle.tor_recheck.proofs.Names.{has_bytes_of, list_any, ones, range_with_len, refl, subst, sym, take}
+use Rattle.tor_recheck.proofs.Names.{IsFault, PlanUnit, option_map, of_engine_error}
 use Rattle.tor_recheck.proofs.Names.{[], IsGiven, IsGivenPieces, PlanFacts}
 use Rattle.tor_recheck.proofs.LotGiven.{given_own, of_own}
 use Rattle.tor_recheck.proofs.RecheckFaults.{given_of}
@@ -30,12 +30,11 @@ bits_between-requires-clause-within g c =
     let units = ap length c.units-units.ensures.value in
     let begins = c.first_of_lot-from.ensures.result ∙ ap₂ (λ n l. first_of_lot n lots l) units c.from.ensures in
     let ends = c.first_of_lot-to.ensures.result ∙ ap₂ (λ n l. first_of_lot n lots (l + 1)) units c.from-2.ensures in
-    let hashes = c.in-Ok.found.hashes.items in
-    let full_is = c.in_ok-hashes.ensures
-    ∙ ap (λ (some : List (Option PieceHash)). replicate from None ++ some) c.deref-2.ensures.value in
-    let bits_are = c.in_ok-bits.ensures ∙ ap (all_judged view) c.deref-3.ensures.value in
+    let hashes = c.in-Ok.found.hashes in
+    let full_is = c.in_ok-hashes.ensures in
+    let bits_are = c.in_ok-bits.ensures in
     let count = ap length bits_are
-    ∙ judged_counted view cut plan planned lots c.args.lot from to begins ends c.in_ok-hashes.hashes.items hashes full_is
+    ∙ judged_counted view cut plan planned lots c.args.lot from to begins ends c.in_ok-hashes.hashes hashes full_is
     (hashes_counted view cut plan planned lots c.args.lot from to begins ends c.in-Ok.found.lengths.items hashes
     c.in-Ok.ensures.there) in
     omega (arith, count)
@@ -78,15 +77,14 @@ returns-clause-found g c = λ how facts steady.
     ∙ ap₂ (λ (units : List PlanUnit) n. map (λ file. list_any (has_bytes_of file) units) (range_with_len 0 n))
     (c.between.ensures ∙ ap (λ (units : List PlanUnit). take (to - from) (drop from units)) c.units-units.ensures.value)
     (ap length c.lengths.ensures) in
-    let hashes = c.in-Ok.found.hashes.items in
-    let full_is = c.in_ok-hashes.ensures
-    ∙ ap (λ (some : List (Option PieceHash)). replicate from None ++ some) c.deref-2.ensures.value in
-    let bits_are = c.in_ok-bits.ensures ∙ ap (all_judged view) c.deref-3.ensures.value in
+    let hashes = c.in-Ok.found.hashes in
+    let full_is = c.in_ok-hashes.ensures in
+    let bits_are = c.in_ok-bits.ensures in
     let found = c.in-Ok.ensures.hashed (own_facts own facts) (facts, steady, refl) in (
       c.in_ok-bits_between.ensures
           ∙ ap (λ (bits : List Bool). take (to - from) (drop from bits)) bits_are
           ∙ bits_found view cut plan planned lots c.args.lot from to begins ends facts own own_is
-          c.in_ok-hashes.hashes.items hashes full_is found.0,
+          c.in_ok-hashes.hashes hashes full_is found.0,
       sym (fault_is view cut plan planned lots c.args.lot from to begins ends facts own own_is)
           ∙ ap (option_map of_engine_error) found.2,
     )
@@ -103,12 +101,11 @@ returns-clause-counted g c =
     let units = ap length c.units-units.ensures.value in
     let begins = c.first_of_lot-from.ensures.result ∙ ap₂ (λ n l. first_of_lot n lots l) units c.from.ensures in
     let ends = c.first_of_lot-to.ensures.result ∙ ap₂ (λ n l. first_of_lot n lots (l + 1)) units c.from-2.ensures in
-    let hashes = c.in-Ok.found.hashes.items in
-    let full_is = c.in_ok-hashes.ensures
-    ∙ ap (λ (some : List (Option PieceHash)). replicate from None ++ some) c.deref-2.ensures.value in
-    let bits_are = c.in_ok-bits.ensures ∙ ap (all_judged view) c.deref-3.ensures.value in
+    let hashes = c.in-Ok.found.hashes in
+    let full_is = c.in_ok-hashes.ensures in
+    let bits_are = c.in_ok-bits.ensures in
     let count = ap length bits_are
-    ∙ judged_counted view cut plan planned lots c.args.lot from to begins ends c.in_ok-hashes.hashes.items hashes full_is
+    ∙ judged_counted view cut plan planned lots c.args.lot from to begins ends c.in_ok-hashes.hashes hashes full_is
     (hashes_counted view cut plan planned lots c.args.lot from to begins ends c.in-Ok.found.lengths.items hashes
     c.in-Ok.ensures.there) in
     ap length c.in_ok-bits_between.ensures

@@ -53,7 +53,7 @@ pub returns-in-Ok-clause-within : goal.returns-in-Ok-clause-within
 returns-in-Ok-clause-within g c =
     let view = c.args.torrent.now in
     subst (λ (pieces : List PlanUnit).
-    SumUpEach (HasHashWithin c.in-Ok.found.lengths.items) pieces c.in-Ok.found.hashes.items)
+    SumUpEach (HasHashWithin c.in-Ok.found.lengths.items) pieces c.in-Ok.found.hashes)
     (ap pieces_of_plan c.in_ok-plan.ensures.planned ∙ pieces_are view [] c.in_ok-plan.ensures.cut)
     c.in-Ok.ensures.within
 

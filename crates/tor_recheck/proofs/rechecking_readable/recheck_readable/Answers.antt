@@ -15,9 +15,9 @@ pub returns-clause-found : goal.returns-clause-found
 returns-clause-found g c = λ how facts steady.
     let view = c.args.torrent.now in
     let cut = c.in-Ok.ensures.cut in
-    let hashes = c.in-Ok.found.hashes.items in
+    let hashes = c.in-Ok.found.hashes in
     let found = c.in-Ok.ensures.hashed how facts steady in (
-      c.in_ok-bits.ensures ∙ ap (all_judged view) c.deref.ensures.value
+      c.in_ok-bits.ensures
           ∙ right_readable facts view cut hashes found.0,
       c.in_ok-files.ensures.found
           ∙ ap₂ (files_found view) found.1 (held_readable facts view cut hashes found.0),
@@ -27,8 +27,8 @@ returns-clause-found g c = λ how facts steady.
 pub returns-clause-counted : goal.returns-clause-counted
 returns-clause-counted g c =
     let view = c.args.torrent.now in (
-      ap length (c.in_ok-bits.ensures ∙ ap (all_judged view) c.deref.ensures.value)
-          ∙ count_of_judged view c.in-Ok.found.hashes.items
+      ap length c.in_ok-bits.ensures
+          ∙ count_of_judged view c.in-Ok.found.hashes
           ∙ c.in-Ok.ensures.counted.0,
       c.in_ok-files.ensures.counted,
     )
@@ -41,7 +41,7 @@ returns-clause-told g c = λ file less.
     let count : length lengths ≡ length (file_spans view) =
     c.in-Ok.ensures.counted.1 ∙ sym (spans_are_counted view c.in-Ok.ensures.cut) in
     let told = ap (map (λ (file : FileFound). file.there)) c.in_ok-files.ensures.found
-    ∙ lengths_kept view lengths (all_held view c.in-Ok.found.hashes.items) count in
+    ∙ lengths_kept view lengths (all_held view c.in-Ok.found.hashes) count in
     subst (λ (sizes : List (Option ℕ)). IsSeenLength answers file (get_or sizes file None)) (sym told)
     (c.in-Ok.ensures.told file
     (omega (arith, less, c.in_ok-files.ensures.counted, c.in-Ok.ensures.counted.1)))
@@ -49,7 +49,7 @@ returns-clause-told g c = λ file less.
 pub returns-clause-there : goal.returns-clause-there
 returns-clause-there g c =
     let view = c.args.torrent.now in
-    let hashes = c.in-Ok.found.hashes.items in
+    let hashes = c.in-Ok.found.hashes in
     let lengths = c.in-Ok.found.lengths.items in
     let held = all_held view hashes in
     let within = each_within lengths (pieces_of view) hashes c.in-Ok.ensures.within in
@@ -57,8 +57,7 @@ returns-clause-there g c =
     c.in-Ok.ensures.counted.1 ∙ sym (spans_are_counted view c.in-Ok.ensures.cut) in
     let told = ap (map (λ (file : FileFound). file.there)) c.in_ok-files.ensures.found
     ∙ lengths_kept view lengths held count in
-    let right : c.in_ok-bits.bits ≡ all_judged view hashes =
-    c.in_ok-bits.ensures ∙ ap (all_judged view) c.deref.ensures.value in
+    let right : c.in_ok-bits.bits ≡ all_judged view hashes = c.in_ok-bits.ensures in
     record {
       held = held;
       files = c.in_ok-files.ensures.found ∙ ap (λ (sizes : List (Option ℕ)). files_found view sizes held) (sym told);
