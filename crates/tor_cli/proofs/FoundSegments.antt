@@ -23,7 +23,7 @@ use Rattle.tor_cli.specs.steps.FoundMembers.{after_files, before_files, found_me
 use Rattle.tor_cli.specs.text.Records.{files_data, found_data, length_data, range_data, recheck_members}
 use Rattle.tor_cli.specs.declared.recheck.bytes_found.BytesFound.{BytesFound}
 use Rattle.tor_cli.specs.declared.recheck.counts.PieceCounts.{PieceCounts}
-use Rattle.tor_cli.specs.declared.recheck.listing.Listing.{Listing}
+use Rattle.tor_cli.specs.declared.recheck.listing.FileListing.{FileListing}
 
 -- ---- the lines
 
@@ -91,7 +91,7 @@ before_and packed hashes rest =
     (two (codes ",\"btmh\":") (compact_text (hash_data (codes "1220") hashes.v2)) (codes ",\"files\":") _ rest refl))
 
 -- the object: the members before the files, the files, the members after them
-pub object_text : (listing : Listing) (view : View) (hashes : Hashes) (bits : List Bool) (told : List BytesFound)
+pub object_text : (listing : FileListing) (view : View) (hashes : Hashes) (bits : List Bool) (told : List BytesFound)
     (packed : List ℕ) → packed ≡ bitfield bits
     → before_files packed hashes ++ (compact_text (files_data listing told view.files) ++ after_files view bits)
     ≡ compact_text (object (recheck_members listing view hashes bits told))

@@ -13,8 +13,8 @@ use Rattle.tor_cli.specs.steps.FoundMembers.{is_listed}
 use Rattle.tor_cli.specs.steps.Items.{are_any, items_front}
 use Rattle.tor_cli.specs.text.Records.{found_data, listed_data}
 use Rattle.tor_cli.specs.declared.recheck.bytes_found.BytesFound.{BytesFound}
-use Rattle.tor_cli.specs.declared.recheck.listing.Listing.{Listing}
-use Rattle.tor_cli.specs.declared.recheck.listing.Listing.TheVariants.{Pieces, Files, BadFiles, BadPaths}
+use Rattle.tor_cli.specs.declared.recheck.listing.FileListing.{FileListing}
+use Rattle.tor_cli.specs.declared.recheck.listing.FileListing.TheVariants.{Pieces, Files, BadFiles, BadPaths}
 
 items_both : (later : Bool) (xs ys : List Data)
     → items_front later xs ++ items_front (are_any later xs) ys ≡ items_front later (xs ++ ys)
@@ -115,14 +115,14 @@ where_not : (whole : Bool) (datas : List Data) → cond whole [] datas ≡ cond 
 where_not true datas = refl
 where_not false datas = refl
 
-listed_as : (listing : Listing) (told : BytesFound) (file : TreeFile)
+listed_as : (listing : FileListing) (told : BytesFound) (file : TreeFile)
     → listed_data listing told file ≡ cond (is_listed listing told.found.state) (found_data told file ∷ []) []
 listed_as Pieces told file = refl
 listed_as Files told file = refl
 listed_as BadFiles told file = where_not (is_whole told.found.state) (found_data told file ∷ [])
 listed_as BadPaths told file = where_not (is_whole told.found.state) (found_data told file ∷ [])
 
-module _ (listing : Listing) (told : BytesFound) (file : TreeFile) (listed : Bool)
+module _ (listing : FileListing) (told : BytesFound) (file : TreeFile) (listed : Bool)
     (same : listed ≡ is_listed listing told.found.state) where
   as_is : listed_data listing told file ≡ cond listed (found_data told file ∷ []) []
   as_is =

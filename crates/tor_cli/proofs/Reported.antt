@@ -18,7 +18,7 @@ use Rattle.tor_cli.specs.steps.Writing.{writing}
 use Rattle.tor_cli.specs.declared.recheck.command.Told.{Told}
 use Rattle.tor_cli.specs.declared.recheck.listing.Form.{Form}
 use Rattle.tor_cli.specs.declared.recheck.listing.Form.TheVariants.{Brief, Text}
-use Rattle.tor_cli.specs.declared.recheck.listing.Listing.{Listing}
+use Rattle.tor_cli.specs.declared.recheck.listing.FileListing.{FileListing}
 use Rattle.tor_cli.specs.declared.recheck.text.Report.{Report}
 use Rattle.tor_cli.specs.declared.recheck.words.RecheckOptions.{RecheckOptions}
 
@@ -37,7 +37,7 @@ printed_of options view hashes bits found report text is printed = record {
 
 -- ---- what went out
 
-module _ (listing : Listing) (view : View) (hashes : Hashes) (bits : List Bool) (files : List FileFound) where
+module _ (listing : FileListing) (view : View) (hashes : Hashes) (bits : List Bool) (files : List FileFound) where
   pub are_lines : (form : Form) → form ≡ Text → IsText form listing view hashes bits files
       (pieces_text form listing bits ++ told_of_files listing files view.files)
   are_lines form is = rw is refl

@@ -24,7 +24,7 @@ IsNoTorrent bytes (Refused refusal) = IsRefusedFor bytes refusal × (refusal ≢
 IsNoTorrent bytes Resources = Unit {0}
 IsNoTorrent bytes other = ⊥
 
--- bytes that the program read whole, of which this holds
+-- some bytes, no more than an input may have, of which this holds
 abbrev pub OfSome : (List ℕ → Type 0) → Type 0
 OfSome Holds = (bytes : List ℕ) × (length bytes ≤ MAX_INPUT_LENGTH) × Holds bytes
 

@@ -20,8 +20,8 @@ use Rattle.tor_cli.specs.declared.fault.Fault.TheVariants.{Usage, Resources}
 use Rattle.tor_cli.specs.declared.recheck.extra_words.ExtraOptions.{ExtraOptions}
 use Rattle.tor_cli.specs.declared.recheck.listing.Form.{Form}
 use Rattle.tor_cli.specs.declared.recheck.listing.Form.TheVariants.{Brief, Json, Text}
-use Rattle.tor_cli.specs.declared.recheck.listing.Listing.{Listing}
-use Rattle.tor_cli.specs.declared.recheck.listing.Listing.TheVariants.{Pieces, Files, BadFiles, BadPaths}
+use Rattle.tor_cli.specs.declared.recheck.listing.FileListing.{FileListing}
+use Rattle.tor_cli.specs.declared.recheck.listing.FileListing.TheVariants.{Pieces, Files, BadFiles, BadPaths}
 use Rattle.tor_cli.specs.declared.make.options.MakeOptions.{MakeOptions}
 use Rattle.tor_cli.specs.declared.edit.words.EditOptions.{EditOptions}
 use Rattle.tor_cli.specs.declared.lots.join_words.JoinOptions.{JoinOptions}
@@ -196,7 +196,7 @@ pub record IsProofIn (options : VerifyOptions) (rows : List Row) : Type 0 where
   pub bytes : first_of (codes "bytes") rows ≡ option_map (λ place. place.now) options.bytes
 
 -- which files are listed, where `--files`, `--bad` and `--null` are each given or not
-abbrev pub listing_of : Bool → Bool → Bool → Listing
+abbrev pub listing_of : Bool → Bool → Bool → FileListing
 listing_of files true true = BadPaths
 listing_of files true false = BadFiles
 listing_of true false null = Files

@@ -5,8 +5,8 @@
 //!
 //! - `sources.rt`: which places a request names. `again.rt`: what is there.
 //! - `making.rt`: why no torrent is made. `torrents.rt`: why a torrent is refused, or not rechecked. `arguments.rt`:
-//!   why a name or a list is none. `streams.rt`: why bytes were not read or written. `whereabouts.rt`: what PATH is not,
-//!   and that files are behind links. `words.rt`: words for the rest.
+//!   why a name or a list is none. `streams.rt`: why bytes were not read or written. `whereabouts.rt`: what PATH is
+//!   not, and that files are behind links. `words.rt`: words for the rest.
 ghost use Rattle.std.specs.Prelude.{IfOk, IfSome, string_bytes};
 ghost use Rattle.tor_explain.specs.Plain.{IsPlainText};
 

@@ -9,8 +9,8 @@ use Rattle.tor_spec.specs.valid.View.{FileView}
 use Rattle.tor_tree.specs.declared.tree_file.TreeFile.{TreeFile}
 use Rattle.tor_report.specs.Escape.{escaped}
 use Rattle.tor_report.specs.Shown.{ended_path, path_text}
-use Rattle.tor_cli.specs.declared.recheck.listing.Listing.{Listing}
-use Rattle.tor_cli.specs.declared.recheck.listing.Listing.TheVariants.{Pieces, Files, BadFiles, BadPaths}
+use Rattle.tor_cli.specs.declared.recheck.listing.FileListing.{FileListing}
+use Rattle.tor_cli.specs.declared.recheck.listing.FileListing.TheVariants.{Pieces, Files, BadFiles, BadPaths}
 
 -- the word for a state
 abbrev pub state_word : FileState → List ℕ
@@ -53,17 +53,17 @@ is_whole Whole = true
 is_whole other = false
 
 -- what is printed of a file
-abbrev pub told_of : Listing → FileFound → TreeFile → List ℕ
+abbrev pub told_of : FileListing → FileFound → TreeFile → List ℕ
 told_of Pieces found file = []
 told_of Files found file = found_line found file
 told_of BadFiles found file = if is_whole found.state then [] else found_line found file
 told_of BadPaths found file = if is_whole found.state then [] else ended_path file
 
 -- the same of what was found and the file that it was found of
-abbrev pub told_of_pair : Listing → FileFound × FileView → List ℕ
+abbrev pub told_of_pair : FileListing → FileFound × FileView → List ℕ
 told_of_pair listing pair = told_of listing pair.0 pair.1.file
 
 -- what is listed of the files: a line for each, or each not whole, or these paths alone. They are in the torrent's
 -- order (profile)
-abbrev pub told_of_files : Listing → List FileFound → List FileView → List ℕ
+abbrev pub told_of_files : FileListing → List FileFound → List FileView → List ℕ
 told_of_files listing found files = flat_map (told_of_pair listing) (zip found files)

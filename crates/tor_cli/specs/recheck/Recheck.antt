@@ -36,8 +36,8 @@ use Rattle.tor_cli.specs.declared.fault.Fault.{Fault}
 use Rattle.tor_cli.specs.declared.recheck.bytes_found.BytesFound.{BytesFound}
 use Rattle.tor_cli.specs.declared.recheck.listing.Form.{Form}
 use Rattle.tor_cli.specs.declared.recheck.listing.Form.TheVariants.{Brief, Json, Text}
-use Rattle.tor_cli.specs.declared.recheck.listing.Listing.{Listing}
-use Rattle.tor_cli.specs.declared.recheck.listing.Listing.TheVariants.{BadPaths}
+use Rattle.tor_cli.specs.declared.recheck.listing.FileListing.{FileListing}
+use Rattle.tor_cli.specs.declared.recheck.listing.FileListing.TheVariants.{BadPaths}
 use Rattle.tor_cli.specs.declared.recheck.words.RecheckOptions.{RecheckOptions}
 use Rattle.tor_cli.specs.declared.recheck.whereabouts.Standing.{Standing}
 use Rattle.tor_cli.specs.declared.recheck.whereabouts.Whereabouts.TheVariants.{Nowhere}
@@ -60,13 +60,13 @@ abbrev pub recheck_answer : List Bool → Answer
 recheck_answer bits = answer_of (set_count bits == length bits)
 
 -- what is printed of the pieces; nothing where paths alone are asked for
-abbrev pub pieces_text : Form → Listing → List Bool → List ℕ
+abbrev pub pieces_text : Form → FileListing → List Bool → List ℕ
 pieces_text form BadPaths bits = []
 pieces_text Brief listing bits = counts_text bits
 pieces_text form listing bits = recheck_text bits
 
 -- what is told of the pieces, and then of the files; or the record of both, with the bytes that do not hold
-abbrev pub IsText : Form → Listing → View → Hashes → List Bool → List FileFound → List ℕ → Type 0
+abbrev pub IsText : Form → FileListing → View → Hashes → List Bool → List FileFound → List ℕ → Type 0
 IsText Json listing view hashes bits found text =
     (told : List BytesFound) × AreBytesFound view bits found told × (text ≡ recheck_line listing view hashes bits told)
 IsText form listing view hashes bits found text =

@@ -13,8 +13,8 @@ use Rattle.tor_spec.specs.valid.View.{View}
 use Rattle.tor_tree.specs.declared.tree_file.TreeFile.{TreeFile}
 use Rattle.tor_cli.specs.recheck.FoundFiles.{is_whole, state_word}
 use Rattle.tor_cli.specs.text.Records.{length_data}
-use Rattle.tor_cli.specs.declared.recheck.listing.Listing.{Listing}
-use Rattle.tor_cli.specs.declared.recheck.listing.Listing.TheVariants.{Pieces, Files, BadFiles, BadPaths}
+use Rattle.tor_cli.specs.declared.recheck.listing.FileListing.{FileListing}
+use Rattle.tor_cli.specs.declared.recheck.listing.FileListing.TheVariants.{Pieces, Files, BadFiles, BadPaths}
 
 -- up to the value of `files`; the bits are packed
 abbrev pub before_files : List ℕ → Hashes → List ℕ
@@ -44,7 +44,7 @@ found_members found file =
     ++ (codes ",\"told\":" ++ (decimal found.told ++ codes "}")))))))))))
 
 -- if a file in this state is listed
-abbrev pub is_listed : Listing → FileState → Bool
+abbrev pub is_listed : FileListing → FileState → Bool
 is_listed Pieces state = false
 is_listed Files state = true
 is_listed BadFiles state = not (is_whole state)

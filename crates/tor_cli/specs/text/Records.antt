@@ -20,8 +20,8 @@ use Rattle.tor_cli.specs.scan.Inventory.{refusal_code, refusal_word}
 use Rattle.tor_report.specs.Escape.{printable}
 use Rattle.tor_cli.specs.declared.scan.inventory.Inventory.{Inventory}
 use Rattle.tor_cli.specs.declared.recheck.bytes_found.BytesFound.{BytesFound}
-use Rattle.tor_cli.specs.declared.recheck.listing.Listing.{Listing}
-use Rattle.tor_cli.specs.declared.recheck.listing.Listing.TheVariants.{Pieces, Files, BadFiles, BadPaths}
+use Rattle.tor_cli.specs.declared.recheck.listing.FileListing.{FileListing}
+use Rattle.tor_cli.specs.declared.recheck.listing.FileListing.TheVariants.{Pieces, Files, BadFiles, BadPaths}
 
 -- ---- of `tor recheck`
 
@@ -46,25 +46,25 @@ found_data told file = object
     (member (codes "told") (count_data told.found.told) no_members)))))))
 
 -- where the file is listed
-abbrev pub listed_data : Listing → BytesFound → TreeFile → List Data
+abbrev pub listed_data : FileListing → BytesFound → TreeFile → List Data
 listed_data Pieces told file = []
 listed_data Files told file = found_data told file ∷ []
 listed_data BadFiles told file = if is_whole told.found.state then [] else found_data told file ∷ []
 listed_data BadPaths told file = if is_whole told.found.state then [] else found_data told file ∷ []
 
-abbrev pub listed_pair : Listing → BytesFound × FileView → List Data
+abbrev pub listed_pair : FileListing → BytesFound × FileView → List Data
 listed_pair listing pair = listed_data listing pair.0 pair.1.file
 
-abbrev pub listed_files : Listing → List BytesFound → List FileView → List Data
+abbrev pub listed_files : FileListing → List BytesFound → List FileView → List Data
 listed_files listing told files = flat_map (listed_pair listing) (zip told files)
 
 -- the files that are listed; null where none is asked for
-abbrev pub files_data : Listing → List BytesFound → List FileView → Data
+abbrev pub files_data : FileListing → List BytesFound → List FileView → Data
 files_data Pieces told files = null
 files_data listing told files = array (items_of (listed_files listing told files))
 
 -- those of `recheck` (profile)
-abbrev pub recheck_members : Listing → View → Hashes → List Bool → List BytesFound → Members
+abbrev pub recheck_members : FileListing → View → Hashes → List Bool → List BytesFound → Members
 recheck_members listing view hashes bits told =
     member (codes "bits") (string (encode_lower (bitfield bits)))
     (member (codes "btih") (hash_data [] hashes.v1)
@@ -77,7 +77,7 @@ recheck_members listing view hashes bits told =
     (member (codes "pieces") (count_data (length bits)) no_members))))))))
 
 -- what the lines of `tor recheck` tell, and more
-abbrev pub recheck_line : Listing → View → Hashes → List Bool → List BytesFound → List ℕ
+abbrev pub recheck_line : FileListing → View → Hashes → List Bool → List BytesFound → List ℕ
 recheck_line listing view hashes bits told = record_line (object (recheck_members listing view hashes bits told))
 
 -- ---- of `tor scan`

@@ -6,7 +6,7 @@ use crate::command::Request;
 use crate::explain::again::torrent_at;
 use crate::explain::sources::{place_of, torrent_of};
 use crate::explain::words::{BEHIND_LINKS, FILE_ABOVE, NO_FILE};
-use crate::recheck::listing::Listing;
+use crate::recheck::listing::FileListing;
 use crate::recheck::source::paths_of;
 use std::alloc::AllocError;
 use std::rt::Files;
@@ -44,7 +44,10 @@ pub fn whereabouts_reason(
 fn follows_to_bad(request: &Request<'_>) -> bool {
     match request {
         Request::Recheck(options) => options.follows_links
-            && matches!(options.listing, Listing::BadFiles | Listing::BadPaths),
+            && matches!(
+                options.listing,
+                FileListing::BadFiles | FileListing::BadPaths
+            ),
         _ => false,
     }
 }

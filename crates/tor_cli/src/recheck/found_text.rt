@@ -5,7 +5,7 @@ ghost use Rattle.tor_cli.specs.recheck.FoundFiles.{told_of_files};
 ghost use Rattle.tor_report.specs.Put.{Puts, Stops};
 ghost use Rattle.tor_report.specs.Segments.{segment_text};
 
-use crate::recheck::listing::Listing;
+use crate::recheck::listing::FileListing;
 use tor_check::ViewFile;
 use tor_meta::WriteFault;
 use tor_recheck::{FileFound, FileState};
@@ -16,7 +16,7 @@ use tor_tree::TreeFile;
 pub fn put_files<S: Sink>(
     buffer: &mut Buffer,
     out: &mut S,
-    listing: Listing,
+    listing: FileListing,
     found: &[FileFound],
     files: &[ViewFile],
 ) -> Result<(), WriteFault>
@@ -34,7 +34,7 @@ pub fn put_files<S: Sink>(
 fn put_file<S: Sink>(
     buffer: &mut Buffer,
     out: &mut S,
-    listing: Listing,
+    listing: FileListing,
     found: &FileFound,
     file: &TreeFile,
 ) -> Result<(), WriteFault>
@@ -44,11 +44,11 @@ fn put_file<S: Sink>(
         out.old buffer.old out.new fault.written) }
 {
     match listing {
-        Listing::Pieces => Ok(()),
-        Listing::Files => put_line(buffer, out, found, file),
-        Listing::BadFiles | Listing::BadPaths if is_whole(found.state) => Ok(()),
-        Listing::BadFiles => put_line(buffer, out, found, file),
-        Listing::BadPaths => buffer.put_ended_path(out, file),
+        FileListing::Pieces => Ok(()),
+        FileListing::Files => put_line(buffer, out, found, file),
+        FileListing::BadFiles | FileListing::BadPaths if is_whole(found.state) => Ok(()),
+        FileListing::BadFiles => put_line(buffer, out, found, file),
+        FileListing::BadPaths => buffer.put_ended_path(out, file),
     }
 }
 

@@ -11,7 +11,7 @@ ghost use Rattle.tor_report.specs.Put.{Puts, Stops};
 use crate::recheck::bytes_found::BytesFound;
 use crate::recheck::found_record::put_found;
 use crate::recheck::found_text::is_whole;
-use crate::recheck::listing::Listing;
+use crate::recheck::listing::FileListing;
 use crate::text::json_line::comma_if;
 use tor_check::ViewFile;
 use tor_meta::WriteFault;
@@ -23,7 +23,7 @@ use tor_tree::TreeFile;
 pub fn put_files<S: Sink>(
     buffer: &mut Buffer,
     out: &mut S,
-    listing: Listing,
+    listing: FileListing,
     told: &[BytesFound],
     files: &[ViewFile],
 ) -> Result<(), WriteFault>
@@ -34,17 +34,17 @@ pub fn put_files<S: Sink>(
         out.old buffer.old out.new fault.written) }
 {
     match listing {
-        Listing::Pieces => buffer.put(out, b"null"),
-        Listing::Files => put_array(buffer, out, listing, told, files),
-        Listing::BadFiles => put_array(buffer, out, listing, told, files),
-        Listing::BadPaths => put_array(buffer, out, listing, told, files),
+        FileListing::Pieces => buffer.put(out, b"null"),
+        FileListing::Files => put_array(buffer, out, listing, told, files),
+        FileListing::BadFiles => put_array(buffer, out, listing, told, files),
+        FileListing::BadPaths => put_array(buffer, out, listing, told, files),
     }
 }
 
 fn put_array<S: Sink>(
     buffer: &mut Buffer,
     out: &mut S,
-    listing: Listing,
+    listing: FileListing,
     told: &[BytesFound],
     files: &[ViewFile],
 ) -> Result<(), WriteFault>
@@ -64,7 +64,7 @@ fn put_array<S: Sink>(
 fn put_listed<S: Sink>(
     buffer: &mut Buffer,
     out: &mut S,
-    listing: Listing,
+    listing: FileListing,
     told: &[BytesFound],
     files: &[ViewFile],
 ) -> Result<(), WriteFault>
@@ -85,7 +85,7 @@ fn put_listed<S: Sink>(
 fn put_if_listed<S: Sink>(
     buffer: &mut Buffer,
     out: &mut S,
-    listing: Listing,
+    listing: FileListing,
     later: bool,
     told: &BytesFound,
     file: &TreeFile,
@@ -105,14 +105,14 @@ fn put_if_listed<S: Sink>(
 }
 
 /// Whether a file in this state is listed.
-fn is_listed(listing: Listing, state: FileState) -> bool
+fn is_listed(listing: FileListing, state: FileState) -> bool
     ensures { result ≡ is_listed listing state }
 {
     match listing {
-        Listing::Pieces => false,
-        Listing::Files => true,
-        Listing::BadFiles => !is_whole(state),
-        Listing::BadPaths => !is_whole(state),
+        FileListing::Pieces => false,
+        FileListing::Files => true,
+        FileListing::BadFiles => !is_whole(state),
+        FileListing::BadPaths => !is_whole(state),
     }
 }
 

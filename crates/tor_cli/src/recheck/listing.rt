@@ -4,7 +4,7 @@ ghost use Rattle.tor_cli.specs.Words.{form_of, listing_of};
 
 /// What is printed of the torrent's files, beside its pieces.
 #[derive(Clone, Copy)]
-pub enum Listing {
+pub enum FileListing {
     /// Nothing.
     Pieces,
     /// A line for each.
@@ -39,13 +39,13 @@ pub fn form_of(brief: bool, json: bool) -> Form
 
 /// The listing that these flags ask for: `--files`; `--bad`, which leaves the whole files out; and `--null`, which
 /// stands beside `--bad` alone.
-pub fn listing_of(files: bool, bad: bool, null: bool) -> Listing
+pub fn listing_of(files: bool, bad: bool, null: bool) -> FileListing
     ensures { result ≡ listing_of files bad null }
 {
     match (files, bad, null) {
-        (_, true, true) => Listing::BadPaths,
-        (_, true, false) => Listing::BadFiles,
-        (true, false, _) => Listing::Files,
-        (false, false, _) => Listing::Pieces,
+        (_, true, true) => FileListing::BadPaths,
+        (_, true, false) => FileListing::BadFiles,
+        (true, false, _) => FileListing::Files,
+        (false, false, _) => FileListing::Pieces,
     }
 }

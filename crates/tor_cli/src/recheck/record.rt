@@ -12,7 +12,7 @@ ghost use Rattle.tor_report.specs.Put.{Puts, Stops};
 use crate::recheck::bytes_found::BytesFound;
 use crate::recheck::counts::counts_of;
 use crate::recheck::listed_records::put_files;
-use crate::recheck::listing::Listing;
+use crate::recheck::listing::FileListing;
 use hex::encode;
 use serde_json::Value;
 use std::alloc::{AllocError, Global};
@@ -26,7 +26,7 @@ pub fn put_record<S: Sink>(
     buffer: &mut Buffer,
     out: &mut S,
     judged: &Judged,
-    listing: Listing,
+    listing: FileListing,
     bits: &Bits,
     packed: &[u8],
     told: &[BytesFound],
@@ -47,7 +47,7 @@ fn put_object<S: Sink>(
     buffer: &mut Buffer,
     out: &mut S,
     judged: &Judged,
-    listing: Listing,
+    listing: FileListing,
     bits: &Bits,
     packed: &[u8],
     told: &[BytesFound],

@@ -13,7 +13,7 @@ ghost use Rattle.tor_report.specs.Reports.{IsCutShort};
 use crate::recheck::bytes_found::{BytesFound, bytes_found};
 use crate::recheck::counts::counts_of;
 use crate::recheck::found_text::put_files;
-use crate::recheck::listing::{Form, Listing};
+use crate::recheck::listing::{FileListing, Form};
 use crate::recheck::record::put_record;
 use std::alloc::Global;
 use std::io::Write;
@@ -29,7 +29,7 @@ pub fn write_report<W: Write>(
     out: &mut W,
     judged: &Judged,
     form: Form,
-    listing: Listing,
+    listing: FileListing,
     bits: &Bits,
     files: &[FileFound],
 ) -> Result<(), ReportFault>
@@ -56,7 +56,7 @@ fn write_lines<W: Write>(
     out: &mut W,
     torrent: &Torrent,
     form: Form,
-    listing: Listing,
+    listing: FileListing,
     bits: &Bits,
     files: &[FileFound],
 ) -> Result<(), ReportFault>
@@ -79,7 +79,7 @@ fn write_record<W: Write>(
     alloc: Global,
     out: &mut W,
     judged: &Judged,
-    listing: Listing,
+    listing: FileListing,
     bits: &Bits,
     told: &[BytesFound],
 ) -> Result<(), ReportFault>
@@ -101,7 +101,7 @@ fn put_pieces<S: Sink>(
     buffer: &mut Buffer,
     out: &mut S,
     form: Form,
-    listing: Listing,
+    listing: FileListing,
     bits: &Bits,
     packed: &[u8],
 ) -> Result<(), WriteFault>
@@ -112,7 +112,7 @@ fn put_pieces<S: Sink>(
         out.old buffer.old out.new fault.written) }
 {
     match (form, listing) {
-        (_, Listing::BadPaths) => Ok(()),
+        (_, FileListing::BadPaths) => Ok(()),
         (Form::Brief, _) => put_counts(buffer, out, bits),
         _ => put_bits(buffer, out, bits, packed),
     }

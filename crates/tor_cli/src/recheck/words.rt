@@ -5,7 +5,7 @@ ghost use Rattle.tor_cli.specs.CommandLine.{recheck_app};
 ghost use Rattle.tor_cli.specs.Words.{IsFlag, IsRecheckIn};
 
 use crate::recheck::extra_words::extra_option;
-use crate::recheck::listing::{Form, Listing, form_of, listing_of};
+use crate::recheck::listing::{FileListing, Form, form_of, listing_of};
 use crate::recheck::lot_words::part_option;
 use crate::torrent_words::{
     argument_of, command_with, flag_of, flag_without, json_option, workers_option,
@@ -22,7 +22,7 @@ pub struct RecheckOptions<'a> {
     pub torrent: &'a str,
     /// The file or folder that has the torrent's files.
     pub place: &'a str,
-    pub listing: Listing,
+    pub listing: FileListing,
     pub form: Form,
     /// How many workers hash.
     pub workers: u32,
