@@ -1,12 +1,19 @@
 """Changed torrents: bytes turned, cut out, doubled and moved, lengths and numbers changed, under a limit of memory.
 
 `check` has to answer each as the reference does, and what it accepts has to be the spelling of its tree. `recheck` has
-to answer with a bit for each piece of what was accepted, and as `check` of what was not. bench/changed tries millions.
+to answer with a bit for each piece of what was accepted, and as `check` of what was not. bench/changed tries millions,
+by the program or by the library.
 """
+import importlib
+import json
 import marshal
+import os
 import re
+import sys
 from collections import namedtuple
+from contextlib import nullcontext
 from functools import lru_cache
+from pathlib import Path
 
 import random_cases
 import reference
@@ -14,6 +21,7 @@ from foreign import BASES
 from reference import Refused, decode, encode, judge
 from support import Failure, done, refused, shown
 
+SHIPPED = Path(__file__).resolve().parent.parent / 'dist' / 'library'
 # The address space of a process. A torrent here has at most some 100 KB.
 ROOM = 100_000 << 10
 # Bytes of a torrent's files, and pieces, up to which the reference tells the bits too.
@@ -124,14 +132,20 @@ def lay_out(folder):
         (folder / name).write_bytes(content)
 
 
+def torrent_of(text):
+    """The torrent that a text is, or Refused. The text has to be the spelling of its tree."""
+    torrent = judge(text)
+    if encode(torrent.root) != text:
+        raise Failure(f'the reference takes for a torrent what is no spelling of a tree: {text!r}')
+    return torrent
+
+
 def judged(text):
     """The answer to a text."""
     try:
-        torrent = judge(text)
+        torrent = torrent_of(text)
     except Refused as refusal:
         return Answer(refused(refusal.line), None)
-    if encode(torrent.root) != text:
-        raise Failure(f'the reference takes for a torrent what is no spelling of a tree: {text!r}')
     return Answer(done(reference.check_lines(torrent)), torrent)
 
 
@@ -220,3 +234,51 @@ def content_at(folder, path):
         return place.read_bytes() if place.is_file() else None
     except OSError:
         return None
+
+
+# The library in place of the program.
+
+def library_in(folder):
+    """plovercasket.py of a folder, or of dist/library if it has none, over the library of the folder."""
+    os.environ['PLOVERCASKET_LIBRARY'] = os.path.join(folder, 'libplovercasket.so')
+    sys.path[:0] = [folder, str(SHIPPED)]
+    return importlib.import_module('plovercasket')
+
+
+def try_by_library(library, texts, begin=lambda text: None, limit=nullcontext):
+    """Judges texts by the library: of each the code of the condition that held, or `accepted`. `begin` is called with
+    each text first, so that it is known which one ended the process, and all are judged within `limit`."""
+    answers = [wanted_of_library(text) for text in texts]
+    with limit():
+        for text, (_, wanted) in zip(texts, answers):
+            begin(text)
+            ask_library(library, text, wanted)
+    return [code for code, _ in answers]
+
+
+def ask_library(library, text, wanted):
+    for ask, answer in zip((library.check_text, library.magnet, library.info_hashes), wanted):
+        came = told_by(ask, text, library.Refused)
+        if came != answer:
+            raise Departs(f'{ask.__name__} of {text[:300]!r} ({len(text)} bytes)\n'
+                          f'wanted  {answer!r:.2000}\ncame    {came!r:.2000}', text)
+
+
+def wanted_of_library(text):
+    """The code, and what the library has to tell: the JSON, the link and the info hashes of a torrent, else three times
+    the line of the refusal, which has its number, offset and fault."""
+    try:
+        torrent = torrent_of(text)
+    except Refused as refusal:
+        return refusal.code, [refusal.line] * 3
+    described = json.dumps(reference.check_record(torrent), sort_keys=True, ensure_ascii=False, separators=(',', ':'))
+    hashes = tuple(digits and bytes.fromhex(digits.decode()) for digits in reference.info_hashes(torrent))
+    return 'accepted', [described, reference.magnet(torrent).decode().rstrip('\n'), hashes]
+
+
+def told_by(ask, text, refusal):
+    """What a function of the library tells of a text."""
+    try:
+        return ask(text)
+    except refusal as why:
+        return str(why)

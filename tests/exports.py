@@ -219,6 +219,13 @@ def test_python(program, folder):
     expect_lines('Python', texts, by_python(texts))
 
 
+def test_as_bench_changed_tries(program, folder):
+    """JSON, link and hashes of changed torrents, as bench/changed tries millions of them by the library."""
+    rng = random.Random(13)
+    for lawful in [changed.lawful(rng) for _ in range(20)]:
+        changed.try_by_library(module(), [changed.changed(rng, lawful) for _ in range(50)])
+
+
 def test_program_tells_the_same(program, folder):
     """The object is the very one of `tor check --json`, and the link that of `tor magnet`."""
     plovercasket, place = module(), folder / 'torrent'

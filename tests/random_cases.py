@@ -540,10 +540,11 @@ def change(rng, root):
 
 
 def collect(item, places):
-    if isinstance(item, (dict, list)):
-        for key in list(item) if isinstance(item, dict) else range(len(item)):
-            places.append((item, key))
-            collect(item[key], places)
+    """Puts into a list each place below a list or a dictionary: what holds it, and its key there."""
+    for key, value in item.items() if isinstance(item, dict) else enumerate(item):
+        places.append((item, key))
+        if isinstance(value, (dict, list)):
+            collect(value, places)
 
 
 def random_item(rng):

@@ -84,6 +84,7 @@ def read_value(text, at, nesting):
 INTEGER_RUN = re.compile(rb'[-0-9]*')
 INTEGER = re.compile(rb'0|-?[1-9][0-9]*')
 DIGITS = re.compile(rb'[0-9]*')
+LENGTH = re.compile(rb'(0|[1-9][0-9]{0,19}):')
 
 
 def read_integer(text, at):
@@ -100,16 +101,22 @@ def read_integer(text, at):
 
 
 def read_bytes(text, at):
+    match = LENGTH.match(text, at)
+    if match:
+        start = match.end()
+        end = start + int(match[1])
+        if end <= len(text):
+            return text[start:end], end
+    raise bytes_fault(text, at)
+
+
+def bytes_fault(text, at):
+    """The fault of what begins with a digit and is no byte string. A length of over 20 digits is beyond any text."""
     end = DIGITS.match(text, at).end()
     run = text[at:end]
-    if end == len(text):
-        raise BadBencode('B1', len(text))
-    if text[end:end + 1] != b':' or (run.startswith(b'0') and len(run) > 1):
-        raise BadBencode('B5', at)
-    start = end + 1
-    if len(run) > 20 or int(run) > len(text) - start:
-        raise BadBencode('B1', len(text))
-    return text[start:start + int(run)], start + int(run)
+    if end < len(text) and (text[end:end + 1] != b':' or (run.startswith(b'0') and len(run) > 1)):
+        return BadBencode('B5', at)
+    return BadBencode('B1', len(text))
 
 
 def read_list(text, at, nesting):
@@ -122,10 +129,10 @@ def read_list(text, at, nesting):
 
 def read_dictionary(text, at, nesting):
     pairs, last = {}, None
-    while text[at:at + 1] != b'e':
-        if at == len(text):
+    while (first := text[at:at + 1]) != b'e':
+        if first == b'':
             raise BadBencode('B1', len(text))
-        if not text[at:at + 1].isdigit():
+        if not first.isdigit():
             raise BadBencode('B6', at)
         key, after = read_bytes(text, at)
         if last is not None and key <= last:
