@@ -208,9 +208,11 @@ def is_told(case, met, came):
 
 
 def is_passed_over(case, met, came):
-    """Whether one question was left without an answer that may be. Where the system does not tell what PATH is, the
-    files are looked for below it: of a folder it is asked again what it is, and a file has none below it. Where it does
-    not tell which file FILE of --out is, no file is there that could be lost."""
+    """Whether one question was left without an answer that may be. If the system does not tell what PATH is, the files
+    are looked for below it: of a folder it is asked again what it is, and a file has none below it. If it does not tell
+    which file FILE of --out is, however often it is asked, no file is there that could be lost."""
+    if all(one.kind == 's' and one.place == str(case.out) for one in met):
+        return came == case.right
     if len(met) > 1:
         return False
     if met[0].kind in 'or' and is_empty_file(met[0].place):
