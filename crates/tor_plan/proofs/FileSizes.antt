@@ -1,6 +1,6 @@
 -- The entries of a list of files are not too long for a plan; the plan of all bytes of entries is theirs.
 use Rattle.tor_plan.proofs.Names.{◌≡◌, ℕ, ◌<◌, ◌≤◌, Bool, true, false, ltb, ◌&&◌, ◌||◌, List, [], ◌∷◌, ◌++◌, map}
-use Rattle.tor_plan.proofs.Names.{sum_by}
+use Rattle.tor_plan.proofs.Names.{◌≢◌, ◌⊎◌, V2, has_padding, inl, inr, refl, sum, sum_by}
 use Rattle.tor_plan.proofs.Names.{arith, ap, ap₂, ◌∙◌, ◌*◌, sym, subst, IsTrue, All-map, sum_by-append, sum_by-cons}
 use Rattle.tor_plan.proofs.Names.{sum_by-le-sum_by, is_power_of_two, next_multiple_of, All, lengths_of, IsFileList}
 use Rattle.tor_plan.proofs.Names.{Kind, V1, Hybrid, MAX_LENGTH, MAX_TOTAL, ROUNDING, files_are_small, Entry, file_entry}
@@ -57,14 +57,39 @@ total_length Hybrid true p files lawful pieces =
     omega (arith, aligned_total true p files pieces.0 (omega (arith, pieces.1)) pieces.2, total_small files lawful)
 total_length kind tail p files lawful pieces = omega (arith, joined_total files, total_small files lawful)
 
+pub lengths_are_few : (files : List File) → IsFileList files → sum (lengths_of files) ≤ MAX_TOTAL
+lengths_are_few files lawful = omega (arith, length_of_files files, joined_total files, total_small files lawful)
+
+pub lengths_are_small : (files : List File) → IsFileList files → All (λ m. m ≤ MAX_LENGTH) (lengths_of files)
+lengths_are_small files lawful =
+    All-map (λ m. m ≤ MAX_LENGTH) (λ (file : File). file.1) files (files_are_small files lawful)
+
 pub files_are_list : (kind : Kind) (tail : Bool) (p : ℕ) (files : List File) → IsFileList files
     → IsPlanPieceLength kind p → IsEntryList kind p (v1_entries (layout_of_kind kind tail) p files)
 files_are_list kind tail p files lawful pieces = record {
   total = total_length kind tail p files lawful pieces;
   files = subst (All (λ m. m ≤ MAX_LENGTH)) (sym (lengths_of_files (layout_of_kind kind tail) p files))
-      (All-map (λ m. m ≤ MAX_LENGTH) (λ (file : File). file.1) files (files_are_small files lawful));
+      (lengths_are_small files lawful);
   laid_out = files_laid_out kind tail p files;
 }
+
+-- ---- files that stand one after another
+
+pub not_hybrid : (kind : Kind) → (kind ≡ V1) ⊎ (kind ≡ V2) → kind ≢ Hybrid
+not_hybrid V1 is = λ e. cc
+not_hybrid V2 is = λ e. cc
+not_hybrid Hybrid (inl is) = λ e. cc
+not_hybrid Hybrid (inr is) = λ e. cc
+
+files_unpadded : (files : List File) → has_padding (map file_entry files) ≡ false
+files_unpadded [] = refl
+files_unpadded (file ∷ files) = files_unpadded files
+
+pub joined_unpadded : (kind : Kind) (p : ℕ) (files : List File) → kind ≢ Hybrid
+    → has_padding (v1_entries (layout_of_kind kind false) p files) ≡ false
+joined_unpadded V1 p files joined = files_unpadded files
+joined_unpadded V2 p files joined = files_unpadded files
+joined_unpadded Hybrid p files joined = absurd (joined refl)
 
 -- ---- the plan of all bytes
 

@@ -23,5 +23,6 @@ pub mod UnitContent
 pub mod UnitLaws
 pub mod FileUnits
 pub mod PieceJoins
-pub mod WholeLaws
+pub mod Unnamed
+mod WholeLaws
 pub mod AlignedPieces

@@ -57,7 +57,7 @@ pub use Rattle.tor_plan.specs.declared.units.Part.{Part}
 pub use Rattle.tor_plan.specs.declared.units.PlanUnit.{PlanUnit}
 pub use Rattle.tor_plan.specs.steps.Joined.{file_alone, joined, part_alone, zeros_alone}
 pub use Rattle.tor_plan.specs.steps.UnitCut.{HasCut, IsStretchAt, stretch_at}
-pub use Rattle.tor_plan.specs.steps.Whole.{AreWhole, plan_of_whole, separate_pieces, whole_unit, whole_units}
+pub use Rattle.tor_plan.specs.steps.Whole.{AreWhole, plan_of_whole, separate_pieces, unnamed, whole_unit, whole_units}
 unfoldable pub use Rattle.tor_plan.specs.steps.Whole.{whole_from}
 pub use Rattle.tor_tree.proofs.ProvedLaws.{files_are_small, is_clear}
 pub use Rattle.tor_tree.specs.FileList.{IsFileList, lengths_fault, lengths_of, lengths_too_large, paths_fault, paths_of}

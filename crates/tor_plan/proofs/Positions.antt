@@ -91,7 +91,7 @@ whole_range a b at (part ∷ parts) from to =
     (omega (arith, from, to, long)))
     (whole_range a b (at + part.length + part.zeros) parts (omega (arith, from)) (omega (arith, to, long)))
 
-positions_of_pieces : (size : ℕ) → 0 < size → (unit : PlanUnit)
+pub positions_of_pieces : (size : ℕ) → 0 < size → (unit : PlanUnit)
     → flat_map positions_of_unit (pieces_of_unit size unit) ≡ positions_of_unit unit
 unfolding pieces_of_unit
 positions_of_pieces size pos unit =

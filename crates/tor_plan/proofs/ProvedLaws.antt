@@ -1,4 +1,4 @@
--- The proofs of the laws of src/laws.rt, and lemmas on entries and logarithms that crates above cite too.
+-- The proofs of the laws of src/laws.rt, and lemmas on entries, units and logarithms that crates above cite too.
 use Rattle.tor_plan.proofs.Names.{◌≡◌, ◌≢◌, ℕ, ◌+◌, ◌-◌, ◌*◌, ◌<◌, min, List, length, get_or, refl, arith, ap}
 use Rattle.tor_plan.proofs.Names.{◌∙◌}
 use Rattle.tor_plan.proofs.Names.{sym, subst, map, inl, inr, append-nil, eq-zero-or-pos, mul-pos, All, flat_map, Kind}
@@ -18,8 +18,11 @@ pub use Rattle.tor_plan.proofs.FilesAsEntries.{files_laid_out, lengths_of_files}
 pub use Rattle.tor_plan.proofs.Sizes.{files_within}
 pub use Rattle.tor_plan.proofs.Trees.{log2_is, trees_are_runs, units_are_few}
 pub use Rattle.tor_plan.proofs.PieceWithin.{pieces_are_within_files}
-pub use Rattle.tor_plan.proofs.Positions.{entry_units_name_each_byte}
+pub use Rattle.tor_plan.proofs.Positions.{entry_units_name_each_byte, positions_of_pieces}
 pub use Rattle.tor_plan.proofs.AlignedPieces.{aligned_pieces_are_joined}
+pub use Rattle.tor_plan.proofs.PieceSteps.{part_met, part_not_met}
+pub use Rattle.tor_plan.proofs.Runs.{runs_are}
+pub use Rattle.tor_plan.proofs.UnitContent.{content_between}
 
 some_piece : (span piece_length : ℕ) → 0 < span * piece_length → 0 < piece_length
 some_piece span piece_length pos = elim (eq-zero-or-pos piece_length) [

@@ -3,7 +3,7 @@
 //! A unit is so many pieces: of one file if the torrent has trees (BEP 52, "pieces root"), else of the joined files
 //! (BEP 3, "info dictionary"). Units are numbered in the order of the list.
 //!
-//! - [`Plan`] (`plans.rt`): the units of a list of files, or of the entries of a torrent, padding among them.
+//! - [`Plan`] (`plans.rt`): the units of a list of files, of lengths, or of a torrent's entries, padding among them.
 //!   `whole.rt` makes one unit of all bytes. `unit_cut.rt` cuts a unit every so many bytes: the whole, or by
 //!   `separate.rt` each file.
 //! - [`PlanUnit`], [`Parts`], [`Part`] (`units.rt`): which bytes a unit has.

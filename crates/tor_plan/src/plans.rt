@@ -1,16 +1,21 @@
 //! The plan of a list of files, or of the entries of a torrent.
-ghost use Rattle.std.specs.Prelude.{◌≡◌, false, IfOk, map};
+ghost use Rattle.std.specs.Prelude.{◌≡◌, ◌≢◌, ◌≤◌, All, false, IfOk, List, map, sum};
+ghost use Rattle.tor_merkle.specs.declared.TheConstants.{MAX_LENGTH};
 ghost use Rattle.tor_plan.specs.Content.{layout_of_kind};
 ghost use Rattle.tor_plan.specs.Entries.{lengths_of_entries};
+ghost use Rattle.tor_tree.specs.FileList.{lengths_of};
+ghost use Rattle.tor_tree.specs.declared.kinds.Kind.TheVariants.{Hybrid};
+ghost use Rattle.tor_tree.specs.declared.lists.TheConstants.{MAX_TOTAL};
 ghost use Rattle.tor_v1.specs.Entries.{v1_entries};
+ghost use Rattle.tor_v1.specs.declared.entry.Entry.{Entry};
 
 use crate::forests::{Forest, trees_of};
 use crate::separate::cut_each;
 use crate::units::PlanUnit;
-use crate::whole::whole_of_entries;
+use crate::whole::{whole_of_entries, whole_of_lengths};
 use std::alloc::{AllocError, Global};
 use std::marker::Model;
-use tor_tree::{FileList, Kind};
+use tor_tree::{FileList, FilePath, Kind};
 use tor_v1::{Entry, Layout, entries_without_letters};
 
 /// How files are cut into units of work for hashing workers. Contracts see what it tells.
@@ -46,7 +51,7 @@ impl Model for Plan {
 }
 
 impl Plan {
-    ghost use Rattle.tor_plan.specs.EntryList.{IsEntryList};
+    ghost use Rattle.tor_plan.specs.EntryList.{IsEntryList, has_padding};
     ghost use Rattle.tor_plan.specs.PlanFacts.{plan_of_entries, IsPlan, IsPlanPieceLength, IsSpan};
     ghost use Rattle.tor_plan.specs.steps.Whole.{plan_of_whole, AreWhole};
 
@@ -65,8 +70,37 @@ impl Plan {
             (v1_entries (layout_of_kind kind false) piece_length list.now.files)) }
     {
         let files = list.files();
-        let entries = entries_without_letters(alloc, files, piece_length, layout_of_kind(kind))?;
-        Plan::of_entries(alloc, &entries, kind, piece_length, span)
+        match kind {
+            Kind::V1 | Kind::V2 => {
+                let lengths = lengths_of_files(alloc, files)?;
+                Plan::of_lengths(alloc, lengths, kind, piece_length, span)
+            }
+            Kind::Hybrid => {
+                let entries = entries_without_letters(alloc, files, piece_length, Layout::Aligned)?;
+                Plan::of_entries(alloc, &entries, kind, piece_length, span)
+            }
+        }
+    }
+
+    /// The plan of files of these lengths that stand one after another, without padding. Of their entries nothing else
+    /// counts.
+    pub fn of_lengths(
+        alloc: Global,
+        lengths: Vec<u64>,
+        kind: Kind,
+        piece_length: u64,
+        span: u32,
+    ) -> Result<Plan, AllocError>
+        requires joined { kind ≢ Hybrid }
+        requires pieces { IsPlanPieceLength kind piece_length }
+        requires span { IsSpan span }
+        requires total { sum lengths.items ≤ MAX_TOTAL }
+        requires files { All (λ m. m ≤ MAX_LENGTH) lengths.items }
+        ensures { (entries : List Entry) → has_padding entries ≡ false → lengths_of_entries entries ≡ lengths.items →
+            IfOk result (λ plan. plan ≡ plan_of_entries kind piece_length span entries) }
+    {
+        let whole = whole_of_lengths(alloc, &lengths)?;
+        Plan::of_whole(alloc, &whole, lengths, kind, piece_length, span)
     }
 
     /// The plan of the entries of a torrent, whose padding is in the units as zeros. Files are those that are no
@@ -157,14 +191,11 @@ impl Plan {
     }
 }
 
-/// How files stand in the content that is cut.
-fn layout_of_kind(kind: Kind) -> Layout
-    ensures { result ≡ layout_of_kind kind false }
+/// The length of each file.
+fn lengths_of_files(alloc: Global, files: &[(FilePath, u64)]) -> Result<Vec<u64>, AllocError>
+    ensures { IfOk result (λ lengths. lengths.items ≡ lengths_of files.now) }
 {
-    match kind {
-        Kind::Hybrid => Layout::Aligned,
-        Kind::V1 | Kind::V2 => Layout::Joined,
-    }
+    files.iter().map(|file| file.1).collect(alloc)
 }
 
 /// The length of each entry that is no padding.

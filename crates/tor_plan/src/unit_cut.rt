@@ -8,8 +8,8 @@ use std::alloc::{AllocError, Global};
 use std::mem;
 
 impl PlanUnit {
-    /// Its pieces, each as a unit of its own; the last is perhaps shorter. Plans are cut by it too: all bytes, or those
-    /// of a file, into pieces that are as long as a unit.
+    /// Its pieces, each as a unit of its own; the last is perhaps shorter. A plan is cut by it too: it hands in the
+    /// bytes of a unit for `piece_length`, and all bytes, or those of a file, become its units.
     pub fn pieces(&self, alloc: Global, piece_length: u64) -> Result<Vec<PlanUnit>, AllocError>
         requires some { 0 < piece_length }
         requires small { All (λ part. part.start + part.length < 2 ^ 64) self.now.parts }

@@ -1,11 +1,12 @@
 //! Units of work, and their parts.
 ghost use Rattle.std.specs.Prelude.{◌≡◌, ◌∷◌, ◌++◌, [], OnErr, OnOk};
 
+use smallvec::SmallVec;
 use std::alloc::{AllocError, Global};
 use std::marker::Model;
 
 /// Bytes of one file that stand directly after one another, and zeros after them.
-#[derive(Clone, Copy, Debug, PartialEq, Eq)]
+#[derive(Clone, Copy, Debug, Default, PartialEq, Eq)]
 pub struct Part {
     /// The index of the file in the list.
     pub file: u64,
@@ -17,10 +18,10 @@ pub struct Part {
     pub zeros: u64,
 }
 
-/// The parts of a unit. Contracts see their list.
+/// The parts of a unit. Most units have one, which takes no memory of its own. Contracts see their list.
 #[derive(Debug, Drop)]
 pub struct Parts {
-    parts: Vec<Part>,
+    parts: SmallVec<Part, 1>,
 }
 
 impl Model for Parts {
@@ -37,7 +38,9 @@ impl Parts {
     pub fn new(parts: Vec<Part>) -> Parts
         ensures { result ≡ parts.items }
     {
-        Parts { parts }
+        Parts {
+            parts: SmallVec::from_vec(parts),
+        }
     }
 
     /// In the order of their bytes.
@@ -69,7 +72,9 @@ impl PlanUnit {
     {
         PlanUnit {
             zeros: 0,
-            parts: Parts::new(Vec::new(alloc)),
+            parts: Parts {
+                parts: SmallVec::new(alloc),
+            },
         }
     }
 
@@ -79,7 +84,7 @@ impl PlanUnit {
         ensures long { OnOk result (unit_length self.new ≡ unit_length self.old + (part.length + part.zeros)) }
         ensures kept { OnErr result (self.new ≡ self.old) }
     {
-        push_part(&mut self.parts.parts, part)?;
+        self.parts.parts.push(part)?;
         Ok(())
     }
 
@@ -89,21 +94,9 @@ impl PlanUnit {
         ensures value { self.new ≡ joined self.old (zeros_alone count) }
         ensures long { unit_length self.new ≡ unit_length self.old + count }
     {
-        match self.parts.parts.last_mut() {
+        match self.parts.parts.as_mut_slice().last_mut() {
             Some(last) => last.zeros += count,
             None => self.zeros += count,
         }
     }
-}
-
-/// Adds a part after the others. Most units have one, so for the first no more memory is asked for than it takes.
-fn push_part(parts: &mut Vec<Part>, part: Part) -> Result<(), AllocError>
-    ensures added { OnOk result (parts.new.items ≡ parts.old.items ++ part ∷ []) }
-    ensures kept { OnErr result (parts.new.items ≡ parts.old.items) }
-{
-    if parts.is_empty() {
-        parts.reserve_exact(1)?;
-    }
-    parts.push(part)?;
-    Ok(())
 }

@@ -1,9 +1,9 @@
-//! All bytes of the entries of a torrent as one unit.
+//! All bytes of the entries of a torrent, or of its files, as one unit.
 ghost use Rattle.std.specs.Prelude.{◌≡◌, ◌≤◌, IfOk, OnOk};
 ghost use Rattle.tor_tree.specs.declared.lists.TheConstants.{MAX_TOTAL};
 ghost use Rattle.tor_plan.specs.Entries.{entries_length};
 ghost use Rattle.tor_plan.specs.steps.Joined.{file_alone, joined};
-ghost use Rattle.tor_plan.specs.steps.Whole.{whole_unit};
+ghost use Rattle.tor_plan.specs.steps.Whole.{unnamed, whole_unit};
 
 use crate::units::{Part, PlanUnit};
 use std::alloc::{AllocError, Global};
@@ -23,6 +23,19 @@ pub(crate) fn whole_of_entries(alloc: Global, entries: &[Entry]) -> Result<PlanU
             add_file(&mut whole, index, entry.length)?;
             index += 1;
         }
+    }
+    Ok(whole)
+}
+
+/// Files of these lengths.
+pub(crate) fn whole_of_lengths(alloc: Global, lengths: &[u64]) -> Result<PlanUnit, AllocError>
+    ensures { IfOk result (λ whole. whole ≡ whole_unit (unnamed lengths.now)) }
+{
+    let mut whole = PlanUnit::empty(alloc);
+    let mut index = 0;
+    'files: for length in lengths {
+        add_file(&mut whole, index, *length)?;
+        index += 1;
     }
     Ok(whole)
 }

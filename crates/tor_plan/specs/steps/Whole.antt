@@ -1,8 +1,9 @@
 -- All bytes of entries as one unit. Only private clauses cite this.
-use Rattle.std.specs.Prelude.{◌≡◌, ℕ, ◌+◌, ◌*◌, List, [], ◌∷◌, if◌then◌else◌}
+use Rattle.std.specs.Prelude.{◌≡◌, ℕ, ◌+◌, ◌*◌, List, [], ◌∷◌, map, if◌then◌else◌}
 use Rattle.std.specs.List.{flat_map}
 use Rattle.tor_tree.specs.declared.kinds.Kind.{Kind}
 use Rattle.tor_tree.specs.declared.kinds.Kind.TheVariants.{V1}
+use Rattle.tor_v1.specs.Entries.{file_entry}
 use Rattle.tor_v1.specs.declared.entry.Entry.{Entry}
 use Rattle.tor_plan.specs.Entries.{empty_unit, lengths_of_entries}
 use Rattle.tor_plan.specs.EntryList.{IsEntryList}
@@ -22,6 +23,10 @@ whole_from index (entry ∷ entries) =
 
 abbrev pub whole_unit : List Entry → PlanUnit
 whole_unit entries = whole_from 0 entries
+
+-- files of these lengths, whose paths nobody asks for
+abbrev pub unnamed : List ℕ → List Entry
+unnamed lengths = map (λ m. file_entry ([], m)) lengths
 
 -- whole files cut each by itself, with the zeros after them
 abbrev pub separate_pieces : ℕ → List Part → List PlanUnit

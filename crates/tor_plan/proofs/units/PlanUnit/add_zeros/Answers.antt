@@ -1,11 +1,19 @@
 -- after the last part
-use Rattle.tor_plan.proofs.Names.{ap, refl, ◌∙◌, joined, zeros_alone}
-use Rattle.tor_plan.proofs.UnitJoins.{after_last}
+use Rattle.std.proofs.lemmas.List.{length-set}
+use Rattle.smallvec.proofs.SmallVecLemmas.{items-with_items}
+use Rattle.tor_plan.proofs.Names.{◌-◌, ap, refl, ◌∙◌, length, set, joined, zeros_alone}
+use Rattle.tor_plan.proofs.UnitJoins.{after_last, unit_of, with_zeros}
 use Rattle.tor_plan.proofs.units.PlanUnit.add_zeros.Goals as goal
 
 pub returns-in-Some-clause-value : goal.returns-in-Some-clause-value
 returns-in-Some-clause-value c =
     let old = c.self.inside.0 in
-    after_last old.0 c.args.count _ old.1.0.parts.items c.in-Some.last.now old.1.0.parts.ok.0
-    (c.in-Some.ensures.variant.0 refl) c.in-Some.ensures.value
-    ∙ ap (λ u. joined u (zeros_alone c.args.count)) c.self.view_is
+    let parts = old.1.0.parts in
+    let lent = c.as_mut_slice.result.now in
+    let last = c.in-Some.last.now in
+    let more = with_zeros last c.args.count in
+    ap (unit_of old.0) (items-with_items parts (set lent (length lent - 1) more)
+    (length-set lent (length lent - 1) more ∙ ap length c.as_mut_slice.ensures.value))
+    ∙ after_last old.0 c.args.count (length lent) lent last refl c.in-Some.ensures.item.3.0
+    c.in-Some.ensures.item.1
+    ∙ ap (λ u. joined u (zeros_alone c.args.count)) (ap (unit_of old.0) c.as_mut_slice.ensures.value ∙ c.self.view_is)
