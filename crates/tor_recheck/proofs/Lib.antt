@@ -13,6 +13,7 @@ pub mod JoinedPieces
 pub mod Judged
 pub mod MerklePieces
 pub mod PieceSides
+pub mod FilesToCut
 pub mod NoCondition
 pub mod ListedFiles
 pub mod ListedGaps

@@ -1,5 +1,5 @@
 -- The first fault of the hashing is that of the recheck.
-use Rattle.tor_recheck.proofs.Names.{◌≡◌, ℕ, [], Option, None, option_map, ap, ap₂, sym, ◌∙◌, inl, inr, option_or}
+use Rattle.tor_recheck.proofs.Names.{◌≡◌, ℕ, [], None, option_map, ap, ap₂, sym, ◌∙◌, inl, inr, option_or}
 use Rattle.tor_recheck.proofs.Names.{contents_in, IsGivenPieces, first_asked_fault, first_piece_fault, pieces_fault}
 use Rattle.tor_recheck.proofs.Names.{EngineError, Read, Changed, Missing, Resources, StreamTooLong, PlanFacts}
 use Rattle.tor_recheck.proofs.Names.{plan_of_entries, IsCut, entries_to_cut, IsFault, IsGiven, first_fault}

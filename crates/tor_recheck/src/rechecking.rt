@@ -1,5 +1,5 @@
 //! A torrent's pieces looked for in the files of a source.
-ghost use Rattle.std.specs.Prelude.{◌≡◌, ◌≢◌, None, Err, IfErr, IfOk, MatchResult, OnOk, length, map};
+ghost use Rattle.std.specs.Prelude.{◌≡◌, ◌≢◌, None, Err, false, IfErr, IfOk, MatchResult, OnOk, length, map};
 ghost use Rattle.tor_sums.specs.Contents.{contents_in};
 ghost use Rattle.tor_sums.specs.Given.{HasTold};
 ghost use Rattle.tor_sums.specs.How.{IsHow};
@@ -13,7 +13,7 @@ ghost use Rattle.tor_recheck.specs.steps.Hashes.{hashes_in};
 ghost use Rattle.tor_source.specs.Source.{SourceFacts};
 ghost use Rattle.tor_recheck.specs.declared.rechecking.TheConstants.{SPAN};
 ghost use Rattle.tor_spec.specs.Verified.{verified_pieces};
-ghost use Rattle.tor_v1.specs.Entries.{file_entry};
+ghost use Rattle.tor_tree.specs.Kinds.{has_v1};
 
 use crate::bits::Bits;
 use crate::errors::RecheckError;
@@ -101,12 +101,13 @@ pub(crate) fn plan_of(alloc: Global, torrent: &Torrent, span: u32) -> Result<Pla
         ≡ plan_of_entries torrent.now.kind torrent.now.piece_length span (entries_to_cut torrent.now)) }
     ensures cut { IsCut torrent.now }
 {
-    let files = torrent.files();
+    // Called for its clause `valid`, which tells the prover that the torrent is one.
+    torrent.files();
     if torrent.kind().has_v1() {
-        return cut_entries(alloc, torrent, torrent.entries(), span);
+        cut_entries(alloc, torrent, torrent.entries(), span)
+    } else {
+        cut_files(alloc, torrent, span)
     }
-    let entries = entries_of(alloc, files)?;
-    cut_entries(alloc, torrent, &entries, span)
 }
 
 /// The units of the entries of a torrent that are to be cut.
@@ -125,21 +126,26 @@ fn cut_entries(
     Plan::of_entries(alloc, entries, torrent.kind(), torrent.piece_length(), span)
 }
 
-/// Files as entries.
-fn entries_of(alloc: Global, files: &[ViewFile]) -> Result<Vec<Entry>, AllocError>
-    ensures { IfOk result
-        (λ entries. entries.items ≡ map (λ told. file_entry (told.file.path, told.file.length)) files.now) }
+/// The units of the files of a torrent that has no v1 side. Of their entries only the lengths count, so no path is
+/// copied.
+fn cut_files(alloc: Global, torrent: &Torrent, span: u32) -> Result<Plan, AllocError>
+    requires cut { IsCut torrent.now }
+    requires no_v1 { has_v1 torrent.now.kind ≡ false }
+    requires span { IsSpan span }
+    ensures { IfOk result (λ plan. plan
+        ≡ plan_of_entries torrent.now.kind torrent.now.piece_length span (entries_to_cut torrent.now)) }
 {
-    let mut entries = Vec::with_capacity(alloc, files.len())?;
+    let lengths = lengths_of(alloc, torrent.files())?;
+    Plan::of_lengths(alloc, lengths, torrent.kind(), torrent.piece_length(), span)
+}
+
+/// The length of each file.
+fn lengths_of(alloc: Global, files: &[ViewFile]) -> Result<Vec<u64>, AllocError>
+    ensures { IfOk result (λ lengths. lengths.items ≡ map (λ told. told.file.length) files.now) }
+{
+    let mut lengths = Vec::with_capacity(alloc, files.len())?;
     'files: for file in files {
-        let file = file.file();
-        entries.push(Entry {
-            path: file.path.copy(alloc)?,
-            length: file.length,
-            pad: false,
-            exec: false,
-            hidden: false,
-        })?;
+        lengths.push(file.file().length)?;
     }
-    Ok(entries)
+    Ok(lengths)
 }
