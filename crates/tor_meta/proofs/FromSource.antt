@@ -1,7 +1,7 @@
 -- A maker's answer over a source, of the files that were handed in.
 use Rattle.std.proofs.Common.{◌≡◌, ℕ, zero, suc, ◌+◌, ◌<◌, List as ListOf, [], ◌∷◌, length}
 use Rattle.std.proofs.Common.{get_or, map, None, unwrap_or, refl, sym, ap, ap₂, subst, ◌∙◌}
-use Rattle.std.proofs.Common.{arith, zero-add, Option, Some}
+use Rattle.std.proofs.Common.{arith, zero-add, Some}
 use Rattle.std.specs.List.{AllByRecursion, enumerate_from, range_with_len}
 use Rattle.std.specs.List.Sorted.{IsPermutation, IsStrictlySortedBy}
 use Rattle.std.proofs.lemmas.List.{get_or-map, length-map}

@@ -6,6 +6,7 @@ pub mod ContentSteps
 pub mod Indexed
 pub mod SourceFiles
 pub mod SourceSums
+pub mod Unpadded
 pub mod OneFile
 pub mod JoinSteps
 pub mod JoinedLots

@@ -1,6 +1,6 @@
 -- What a link has of a text.
 use Rattle.std.proofs.Common.{◌≡◌, ◌<◌, ◌++◌, ◌∷◌, ◌∙◌, [], ℕ, List, true, refl, ap, ap₂, sym, Bool, false}
-use Rattle.std.specs.Prelude.{flat_map, if◌then◌else◌, not}
+use Rattle.std.specs.Prelude.{if◌then◌else◌, not}
 use Rattle.std.specs.List.{All}
 use Rattle.std.proofs.lemmas.List.Elements.{All-head, All-tail}
 use Rattle.std.proofs.lemmas.Bool.{agree_below, agree_below_at}

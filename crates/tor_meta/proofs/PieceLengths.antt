@@ -1,6 +1,6 @@
 -- The piece lengths that are chosen by a size.
-use Rattle.std.proofs.Common.{◌≡◌, ◌≤◌, ◌<◌, ◌⊎◌, ◌*◌, ◌^◌, ◌∷◌, ◌∙◌, [], ℕ, Bool, true, false, true≢false, cond}
-use Rattle.std.proofs.Common.{List, Option, Some, None, inl, inr, refl, ap, sym, arith}
+use Rattle.std.proofs.Common.{◌≡◌, ◌≤◌, ◌<◌, ◌⊎◌, ◌*◌, ◌^◌, ◌∷◌, [], ℕ, Bool, true, false, true≢false, cond}
+use Rattle.std.proofs.Common.{List, Option, Some, inl, inr, refl, ap, sym, arith}
 use Rattle.std.specs.Int.{div_ceil}
 use Rattle.std.specs.List.{AllByRecursion, find}
 use Rattle.std.specs.Prelude.{◌&&◌, ◌/◌, nat_le, unwrap_or}

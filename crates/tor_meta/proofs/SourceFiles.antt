@@ -1,5 +1,5 @@
 -- The files of a source at the indices of a list of paths.
-use Rattle.std.proofs.Common.{◌≡◌, ℕ, zero, suc, ◌<◌, Option, Some, List, [], ◌∷◌, length, get_or, map}
+use Rattle.std.proofs.Common.{◌≡◌, ℕ, zero, suc, ◌<◌, Some, List, [], ◌∷◌, length, get_or, map}
 use Rattle.std.proofs.Common.{refl, ap, ◌∙◌, arith, zero-add}
 use Rattle.std.specs.List.{AllByRecursion}
 use Rattle.std.proofs.lemmas.List.{get_or-map, length-map}

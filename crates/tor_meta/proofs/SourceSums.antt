@@ -53,7 +53,7 @@ one_entry p [] h = cc
 one_entry p (file ∷ other ∷ files) h = absurd (omega (arith, h))
 one_entry p (file ∷ []) h = rw (and_right (nat_lt 0 _) false refl) refl
 
-same_entries : (head : Head) (files : List (List (List ℕ) × ℕ)) → (head.single ≡ true → length files ≡ 1) →
+pub same_entries : (head : Head) (files : List (List (List ℕ) × ℕ)) → (head.single ≡ true → length files ≡ 1) →
     v1_entries (plan_layout head.kind (has_tail (settings_of head))) head.piece_length files
     ≡ v1_entries (layout_of (settings_of head)) head.piece_length files
 same_entries head files one = by_kind head.kind head.single head.tail one
@@ -91,10 +91,10 @@ sums_of_files head files contents hashed judged sums =
 
 -- ---- a plan of those entries
 
-abbrev entries_for : Head → List (List (List ℕ) × ℕ) → List Entry
+abbrev pub entries_for : Head → List (List (List ℕ) × ℕ) → List Entry
 entries_for head files = v1_entries (layout_of (settings_of head)) head.piece_length files
 
-abbrev entries_by_plan : Head → List (List (List ℕ) × ℕ) → List Entry
+abbrev pub entries_by_plan : Head → List (List (List ℕ) × ℕ) → List Entry
 entries_by_plan head files =
     v1_entries (plan_layout head.kind (has_tail (settings_of head))) head.piece_length files
 

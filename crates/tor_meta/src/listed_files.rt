@@ -18,6 +18,7 @@ ghost use Rattle.tor_tree.specs.FileList.{lengths_of};
 
 use crate::entries::entries_to_hash;
 use crate::head::Head;
+use crate::listing::lengths_of;
 use crate::torrent::torrent_bytes;
 use std::alloc::{AllocError, Global};
 use std::thread::Threads;
@@ -26,7 +27,7 @@ use tor_merkle::laws::piece_length_bounds;
 use tor_plan::Plan;
 use tor_plan::laws::{entry_units_are_the_content, files_are_cut_as_entries};
 use tor_source::Source;
-use tor_tree::FileList;
+use tor_tree::{FileList, Kind};
 
 /// The bytes of the torrent of a list of files, whose lengths were told: file i of the list is file i of the source.
 pub(crate) fn torrent_of_listed<S: Source, R: Threads + Sync>(
@@ -106,9 +107,28 @@ pub(crate) fn plan_of_listed(
     piece_length_bounds();
     files_are_cut_as_entries();
     entry_units_are_the_content();
-    let entries = entries_to_hash(alloc, head, list)?;
-    let plan = Plan::of_entries(alloc, &entries, head.kind, head.piece_length, span)?;
+    let plan = cut_files(alloc, list, head, span)?;
     Ok(plan)
+}
+
+/// The files cut as their entries. In a torrent of one version no padding stands among them: their lengths say all.
+fn cut_files(alloc: Global, list: &FileList, head: &Head, span: u32) -> Result<Plan, AllocError>
+    requires judged { IsJudged head.now list.now.files }
+    requires span { IsSpan span }
+    ensures { IfOk result (λ plan. plan ≡ plan_of_head head.now span list.now.files) }
+{
+    piece_length_bounds();
+    files_are_cut_as_entries();
+    match head.kind {
+        Kind::V1 | Kind::V2 => {
+            let lengths = lengths_of(alloc, list.files())?;
+            Plan::of_lengths(alloc, lengths, head.kind, head.piece_length, span)
+        }
+        Kind::Hybrid => {
+            let entries = entries_to_hash(alloc, head, list)?;
+            Plan::of_entries(alloc, &entries, head.kind, head.piece_length, span)
+        }
+    }
 }
 
 /// The bytes of the torrent of the files that have these sums.

@@ -142,7 +142,7 @@ fn list_of(alloc: Global, head: &Head, files: &[(FilePath, u64)]) -> Result<File
 }
 
 /// The lengths of files.
-fn lengths_of(alloc: Global, files: &[(FilePath, u64)]) -> Result<Vec<u64>, AllocError>
+pub(crate) fn lengths_of(alloc: Global, files: &[(FilePath, u64)]) -> Result<Vec<u64>, AllocError>
     ensures { IfOk result (λ lengths. lengths.items ≡ lengths_of files.now) }
 {
     let mut lengths = Vec::with_capacity(alloc, files.len())?;

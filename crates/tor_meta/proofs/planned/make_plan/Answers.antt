@@ -1,7 +1,5 @@
 -- the files in the order of their paths are those that were handed in
-use Rattle.std.proofs.Common.{length, subst, ℕ}
-use Rattle.std.proofs.lemmas.List.{length-map}
-use Rattle.tor_meta.specs.Make.{IsGivenTo}
+use Rattle.std.proofs.Common.{length}
 use Rattle.tor_tree.specs.FileList.{paths_of}
 use Rattle.tor_meta.proofs.FaultsOfLengths.{refused_of_lengths}
 use Rattle.tor_meta.proofs.Made.{judged_list}
