@@ -32,6 +32,7 @@ pub mod Stopping
 pub mod TogetherFound
 pub mod TogetherPieces
 pub mod TogetherRanges
+pub mod TogetherUnits
 pub mod Told
 pub mod ToldContents
 pub mod Unsummed

@@ -2,7 +2,7 @@
 use Rattle.std.proofs.Common.{◌≡◌, ◌<◌, ◌≤◌, ℕ, ◌+◌, ◌*◌, Bool, true, false, true≢false, cond, List, [], ◌∷◌}
 use Rattle.std.specs.Prelude.{IsSome}
 use Rattle.std.proofs.Common.{◌++◌, length, drop, sum_by, get_or, Option, None, Some, refl, ap, ap₂}
-use Rattle.std.proofs.Common.{sym, subst, ◌∙◌, arith, append-nil, ◌/◌, lt_of_mul-lt-mul_right}
+use Rattle.std.proofs.Common.{sym, subst, ◌∙◌, arith, append-nil, is_some, ◌/◌, lt_of_mul-lt-mul_right}
 use Rattle.std.specs.Int.{div_ceil}
 use Rattle.std.specs.List.{AllByRecursion, flat_map, list_all, slice_get}
 use Rattle.std.specs.Simd.{first_chunks}
@@ -25,9 +25,12 @@ use Rattle.tor_sums.specs.Fault.{first_of, part_fault, unit_fault}
 use Rattle.tor_engine.specs.PieceFault.{piece_fault}
 use Rattle.tor_engine.specs.PieceHashes.{hash_if_there, hash_of_parts, piece_hash}
 use Rattle.tor_sums.specs.steps.Hashes.{bytes_of_part}
-use Rattle.tor_engine.specs.steps.Pieces.{HasPieces, IsPaddingSum, IsPiece, sums_in}
+use Rattle.tor_engine.specs.declared.piece_hash.FoundPiece.{FoundPiece}
+use Rattle.tor_engine.specs.declared.piece_hash.FoundPiece.TheVariants.{Hashed, Unsummed}
+use Rattle.tor_engine.specs.steps.Pieces.{HasPieces, IsPaddingSum, IsPiece, hashes_in, owed_to_piece, paid_piece}
+use Rattle.tor_engine.specs.steps.Pieces.{sums_in}
 use Rattle.tor_sums.proofs.FirstOf.{first_of_none}
-use Rattle.tor_engine.proofs.PartsInside.{Inside, parts_in, unit_long}
+use Rattle.tor_engine.proofs.PartsInside.{Inside, parts_in}
 
 -- the law length_of_sums
 abbrev pub LengthOfSums : Type 0
@@ -46,14 +49,22 @@ one_sum : (sum : List ℕ) → length sum ≡ 20 → sums_in sum ≡ sum ∷ []
 one_sum sum long =
     ap (λ n. first_chunks 20 (n / 20) sum) long ∙ ap (λ xs. xs ∷ []) (take_all 20 sum (omega (arith, long)))
 
--- a side's hash, where the kind has it
-pub some_if : (b : Bool) (sum own : List ℕ) → b ≡ true → own ≡ cond b sum [] → Some own ≡ cond b (Some sum) None
-some_if true sum own has is = ap Some is
-some_if false sum own has is = absurd (true≢false (sym has))
+-- what is known of a piece by its Merkle hash
+abbrev found_by : Bool → Option (List ℕ) → FoundPiece
+found_by sums v2 = cond sums (Unsummed v2) (Hashed (record { v1 = None; v2 = v2 }))
 
-pub none_if : (b : Bool) (sum : List ℕ) → b ≡ false → None ≡ cond b (Some sum) None
-none_if true sum has = absurd (true≢false has)
-none_if false sum has = refl
+pub found_is : (sums : Bool) (v2 : Option (List ℕ)) (own sum : List ℕ) → own ≡ cond sums sum []
+    → hashes_in (paid_piece (found_by sums v2) own) ≡ Some (record { v1 = cond sums (Some sum) None; v2 = v2 })
+found_is true v2 own sum is = ap (λ xs. Some (record { v1 = Some xs; v2 = v2 })) is
+found_is false v2 own sum is = refl
+
+pub is_found : (sums : Bool) (v2 : Option (List ℕ)) → is_some (hashes_in (found_by sums v2)) ≡ true
+is_found true v2 = refl
+is_found false v2 = refl
+
+pub owed_by : (sums : Bool) (v2 : Option (List ℕ)) → owed_to_piece (found_by sums v2) ≡ cond sums 20 0
+owed_by true v2 = refl
+owed_by false v2 = refl
 
 -- its one SHA-1 has 20 bytes
 pub one_long : (sums_law : LengthOfSums) (plan : PlanFacts) (piece : PlanUnit) → IsPiece plan piece

@@ -1,21 +1,17 @@
 -- Parts that are in contents: how many bytes they have there, and that the source has them.
 use Rattle.std.proofs.Common.{◌≡◌, ◌<◌, ◌≤◌, ℕ, zero, suc, ◌+◌, Bool, true, false, ◌&&◌, true≢false, List, [], ◌∷◌}
-use Rattle.std.proofs.Common.{length, take, drop, get_or, Option, None, unwrap_or, sum_by, refl, ap, ap₂, sym}
-use Rattle.std.proofs.Common.{◌∙◌, arith}
-use Rattle.std.specs.List.{All, AllByRecursion, flat_map, list_all}
+use Rattle.std.proofs.Common.{length, get_or, Option, None, unwrap_or, refl, ap, ap₂, sym, arith}
+use Rattle.std.specs.List.{All, AllByRecursion, list_all}
 use Rattle.std.proofs.Math.ListN.{get_or-map}
-use Rattle.std.proofs.lemmas.Bool.{leb-true}
-use Rattle.std.proofs.lemmas.List.{length-append, length-drop, length-replicate, length-take-le}
+use Rattle.std.proofs.lemmas.Bool.{le-leb, leb-true}
+use Rattle.std.proofs.lemmas.List.{length-drop}
 use Rattle.std.proofs.lemmas.List.Elements.{All-from_recursion, recursion_from_All}
-use Rattle.std.proofs.lemmas.List.Sums.{sum_by-cons}
-use Rattle.tor_plan.specs.Content.{part_content, unit_content}
 use Rattle.tor_plan.specs.PlanFacts.{PlanFacts}
 use Rattle.tor_plan.specs.Present.{is_part_there, is_there}
-use Rattle.tor_plan.specs.WithinEntries.{IsInFile, unit_length}
+use Rattle.tor_plan.specs.WithinEntries.{IsInFile}
 use Rattle.tor_plan.specs.declared.units.Part.{Part}
 use Rattle.tor_plan.specs.declared.units.PlanUnit.{PlanUnit}
 use Rattle.tor_source.specs.Source.{SourceFacts}
-use Rattle.tor_v1.specs.Piece.{zeros}
 use Rattle.tor_sums.specs.Contents.{contents_in}
 use Rattle.tor_engine.specs.There.{is_part_within, is_within, length_told}
 use Rattle.tor_sums.specs.steps.Given.{lengths_of_sizes}
@@ -36,32 +32,6 @@ module _ (contents : List (List ℕ)) where
   parts_in (part ∷ parts) all =
       let both = first_in (is_part_there contents part) (list_all (is_part_there contents) parts) all in
       (leb-true (part.start + part.length) (length (get_or contents part.file [])) both.0, parts_in parts both.1)
-
-  part_long : (part : Part) → part.start + part.length ≤ length (get_or contents part.file [])
-      → length (part_content contents part) ≡ part.length + part.zeros
-  unfolding zeros
-  part_long part there =
-      let content = get_or contents part.file [] in
-      let rest = drop part.start content in
-      let front = length-take-le part.length rest (omega (arith, there, length-drop part.start content)) in
-      length-append (take part.length rest) (zeros part.zeros)
-      ∙ ap₂ (λ a b. a + b) front (length-replicate {A = ℕ} part.zeros 0)
-
-  parts_long : (parts : List Part)
-      → AllByRecursion (Inside contents) parts
-      → length (flat_map (part_content contents) parts) ≡ sum_by (λ part. part.length + part.zeros) parts
-  parts_long [] there = refl
-  parts_long (part ∷ parts) there =
-      length-append (part_content contents part) (flat_map (part_content contents) parts)
-      ∙ ap₂ (λ a b. a + b) (part_long part there.0) (parts_long parts there.1)
-      ∙ sym (sum_by-cons (λ (part : Part). part.length + part.zeros) part parts)
-
-  pub unit_long : (unit : PlanUnit) → is_there contents unit ≡ true
-      → length (unit_content contents unit) ≡ unit_length unit
-  unfolding zeros
-  unit_long unit there =
-      length-append (zeros unit.zeros) (flat_map (part_content contents) unit.parts)
-      ∙ ap₂ (λ a b. a + b) (length-replicate {A = ℕ} unit.zeros 0) (parts_long unit.parts (parts_in unit.parts there))
 
 -- the source has them, too
 source_has : {F : Type 0} (facts : SourceFacts F) (plan : PlanFacts) (parts : List Part)
@@ -105,6 +75,20 @@ in_told sizes lengths (part ∷ parts) are there =
       },
       in_told sizes lengths parts are.1 both.1,
     )
+
+-- and the other way round: they are there by these sizes
+parts_told : (sizes : List (Option ℕ)) (parts : List Part) → AllByRecursion (IsInFile (lengths_of_sizes sizes)) parts
+    → list_all (is_part_within sizes) parts ≡ true
+parts_told sizes [] are = refl
+parts_told sizes (part ∷ parts) are =
+    let size = get_or-map (λ size. unwrap_or size 0) sizes part.file None in
+    ap₂ (λ a b. a && b) (le-leb (part.start + part.length) (length_told sizes part.file)
+    (omega (arith, are.0.within, size))) (parts_told sizes parts are.1)
+
+pub told_has_unit : (sizes : List (Option ℕ)) (unit : PlanUnit) → All (IsInFile (lengths_of_sizes sizes)) unit.parts
+    → is_within sizes unit ≡ true
+told_has_unit sizes unit are =
+    parts_told sizes unit.parts (recursion_from_All (IsInFile (lengths_of_sizes sizes)) unit.parts are)
 
 pub unit_in_told : (sizes : List (Option ℕ)) (lengths : List ℕ) (unit : PlanUnit) → All (IsInFile lengths) unit.parts
     → is_within sizes unit ≡ true → All (IsInFile (lengths_of_sizes sizes)) unit.parts

@@ -1,11 +1,8 @@
 -- The pieces of a unit that is one part of a file: each is a part of the bytes of that part.
-use Rattle.std.proofs.Common.{◌≡◌, ◌<◌, ◌≤◌, ℕ, zero, suc, ◌+◌, ◌*◌, ◌-◌, max, min, Bool, true, false, ◌&&◌, List, []}
-use Rattle.std.proofs.Common.{◌∷◌}
-use Rattle.std.proofs.Common.{◌++◌, map, take, drop, drop-drop, get_or, Option, append-nil, arith, inl, inr, refl}
-use Rattle.std.proofs.Common.{ap, ap₂, sym, ◌∙◌, true≢false}
+use Rattle.std.proofs.Common.{◌≡◌, ◌<◌, ◌≤◌, ℕ, zero, suc, ◌+◌, ◌*◌, ◌-◌, max, min, List, [], ◌∷◌, take, drop}
+use Rattle.std.proofs.Common.{drop-drop, get_or, arith, inl, inr, refl, ap, ap₂, sym, ◌∙◌}
 use Rattle.std.specs.Int.{div_ceil}
-use Rattle.std.specs.List.{flat_map, list_all, range_with_len}
-use Rattle.std.proofs.lemmas.Bool.{cases_lt, le-leb, leb-true}
+use Rattle.std.proofs.lemmas.Bool.{cases_lt}
 use Rattle.std.proofs.lemmas.Grind.{div_ceil_times}
 use Rattle.std.proofs.lemmas.List.{drop-take, length-take, take-take, take_all}
 use Rattle.std.proofs.lemmas.List.Sums.{sum_by-cons}
@@ -13,15 +10,11 @@ use Rattle.tor_merkle.specs.Block.{run_at}
 use Rattle.tor_merkle.proofs.ProvedLaws.{ceil_is}
 use Rattle.tor_plan.specs.Entries.{shared}
 use Rattle.tor_plan.specs.Pieces.{parts_between, piece_of_unit, unit_between}
-use Rattle.tor_plan.specs.Positions.{positions, positions_of_part, positions_of_unit}
 use Rattle.tor_plan.specs.WithinEntries.{unit_length}
 use Rattle.tor_plan.specs.declared.units.Part.{Part}
 use Rattle.tor_plan.specs.declared.units.PlanUnit.{PlanUnit}
-use Rattle.tor_plan.proofs.PieceSteps.{part_met, part_not_met}
-use Rattle.tor_plan.proofs.Runs.{runs_are}
+use Rattle.tor_plan.proofs.ProvedLaws.{part_met, part_not_met}
 use Rattle.tor_sums.specs.steps.Hashes.{bytes_of_part}
-use Rattle.tor_engine.specs.There.{is_part_within, is_within, length_told}
-use Rattle.tor_engine.proofs.TogetherRanges.{positions_joined}
 
 -- the unit that is one part
 abbrev pub alone : Part → PlanUnit
@@ -51,20 +44,6 @@ module _ (a b : ℕ) (part : Part) where
     ap (λ (u : PlanUnit). u.parts) (part_met a b 0 part [] (omega (arith, less, within))),
     record { file = refl; start = omega arith; count = omega arith },
   )
-
-first_true : (a : Bool) → (a && true) ≡ true → a ≡ true
-first_true true is = refl
-first_true false is = absurd (true≢false (sym is))
-
--- it is there where the whole part is
-pub range_within : (told : List (Option ℕ)) (a b : ℕ) (part other : Part) → HasRange a b part other → a < part.length
-    → is_within told (alone part) ≡ true → list_all (is_part_within told) (other ∷ []) ≡ true
-range_within told a b part other has within is =
-    let whole = leb-true (part.start + part.length) (length_told told part.file)
-    (first_true (is_part_within told part) is) in
-    let same = ap (length_told told) has.file in
-    ap (λ x. x && true) (le-leb (other.start + other.length) (length_told told other.file)
-    (omega (arith, whole, same, has.start, has.count, within)))
 
 -- its bytes are among those of the part
 pub range_bytes : (contents : List (List ℕ)) (p k : ℕ) (part other : Part)
@@ -128,28 +107,3 @@ module _ (p : ℕ) (part : Part) (some : 0 < p) (bytes : 0 < part.length)
   piece_range k less =
       let next : (k + 1) * p ≡ k * p + p = omega arith in
       in_range (k * p) ((k + 1) * p) part (omega (arith, next, some)) (begins k less)
-
-  -- their bytes, one piece after the other, are those of the part
-  pub same_positions : flat_map positions_of_unit (map (piece_of_unit p (alone part)) (range_with_len 0 count))
-      ≡ positions part.file part.start part.length
-  same_positions =
-      ap (λ n. flat_map positions_of_unit (map (piece_of_unit p (alone part)) (range_with_len 0 n))) (sym counted)
-      ∙ runs_are positions_of_unit (piece_of_unit p (alone part)) (positions part.file part.start) part.length p some
-      step refl
-    where
-      step : (k : ℕ) → k * p < part.length
-          → positions part.file part.start (k * p) ++ positions_of_unit (piece_of_unit p (alone part) k)
-          ≡ positions part.file part.start (min part.length ((k + 1) * p))
-      step k less =
-          let next : (k + 1) * p ≡ k * p + p = omega arith in
-          let here = in_range (k * p) ((k + 1) * p) part (omega (arith, next, some)) less in
-          let n = min ((k + 1) * p) part.length - k * p in
-          let own : positions_of_unit (piece_of_unit p (alone part) k)
-          ≡ positions part.file (part.start + k * p) n =
-          ap (flat_map positions_of_part) here.1 ∙ append-nil (positions_of_part here.0)
-          ∙ ap₂ (λ file s. positions file s here.0.length) here.2.file here.2.start
-          ∙ ap (positions part.file (part.start + k * p)) here.2.count in
-          ap (λ xs. positions part.file part.start (k * p) ++ xs) own
-          ∙ positions_joined part.file part.start (k * p) n
-          ∙ ap (positions part.file part.start)
-          (let e : k * p + n ≡ min part.length ((k + 1) * p) = omega (arith, next, less) in e)

@@ -1,18 +1,16 @@
 -- Lists by a range of numbers, as the pieces of a unit are: what each has, and what all have together.
 use Rattle.std.proofs.Common.{◌≡◌, ◌<◌, ◌≤◌, ℕ, zero, suc, ◌+◌, ◌*◌, ◌-◌, min, List, [], ◌∷◌, ◌++◌, map, length, take}
-use Rattle.std.proofs.Common.{drop}
-use Rattle.std.proofs.Common.{Option, arith, refl, ap, ap₂, sym, ◌∙◌}
+use Rattle.std.proofs.Common.{drop, replicate, Option, arith, refl, ap, ap₂, sym, ◌∙◌}
 use Rattle.std.specs.Int.{div_ceil}
 use Rattle.std.specs.List.{flat_map, range_with_len}
 use Rattle.std.specs.Option.{option_or}
 use Rattle.std.proofs.Math.Seq.{take-add}
-use Rattle.std.proofs.lemmas.List.{length-drop, length-take, length-take-le, map-append, take_all, take_min}
+use Rattle.std.proofs.lemmas.List.{length-drop, length-take, length-take-le, take_all, take_min}
 use Rattle.tor_merkle.specs.Block.{leaves, run_at}
 use Rattle.tor_merkle.specs.Layer.{IsPieceLength, piece_level, piece_roots}
 use Rattle.tor_merkle.specs.Stack.{padded_subtree}
 use Rattle.tor_merkle.proofs.ProvedLaws.{below_from_ceil, piece_roots_of_units, root_of_short_content}
-use Rattle.tor_plan.specs.Positions.{positions}
-use Rattle.tor_plan.proofs.Runs.{runs_are}
+use Rattle.tor_plan.proofs.ProvedLaws.{runs_are}
 use Rattle.tor_v1.specs.Piece.{piece_sums}
 use Rattle.tor_v1.proofs.ProvedLaws.{piece_sums-nil, sums_of_joined}
 use Rattle.tor_sums.specs.Fault.{first_of}
@@ -65,23 +63,15 @@ pub flat_none : (ks : List ℕ) → [] ≡ flat_map nothing ks
 flat_none [] = refl
 flat_none (k ∷ ks) = flat_none ks
 
+pub same_each : {X : Type 0} (x : X) (a n : ℕ) → replicate n x ≡ map (λ k. x) (range_with_len a n)
+same_each x a zero = refl
+same_each x a (suc n) = ap (λ xs. x ∷ xs) (same_each x (a + 1) n)
+
 pub map_twice : {X Y Z : Type 0} (f : Y → Z) (g : X → Y) (xs : List X) → map f (map g xs) ≡ map (λ x. f (g x)) xs
 map_twice f g [] = refl
 map_twice f g (x ∷ xs) = ap (λ ys. f (g x) ∷ ys) (map_twice f g xs)
 
 -- ---- runs of bytes
-
-range_joined : (s n k : ℕ) → range_with_len s n ++ range_with_len (s + n) k ≡ range_with_len s (n + k)
-range_joined s zero k = ap₂ range_with_len (omega arith) (omega arith)
-range_joined s (suc n) k =
-    ap (λ t. s ∷ (range_with_len (s + 1) n ++ range_with_len t k)) (omega arith)
-    ∙ ap (λ xs. s ∷ xs) (range_joined (s + 1) n k)
-    ∙ ap (range_with_len s) (let e : suc (n + k) ≡ suc n + k = omega arith in e)
-
-pub positions_joined : (file s n k : ℕ) → positions file s n ++ positions file (s + n) k ≡ positions file s (n + k)
-positions_joined file s n k =
-    sym (map-append (λ (offset : ℕ). (file, offset)) (range_with_len s n) (range_with_len (s + n) k))
-    ∙ ap (map (λ (offset : ℕ). (file, offset))) (range_joined s n k)
 
 pub run_length : (p k : ℕ) (xs : List ℕ) → length (run_at p xs k) ≡ min (length xs - k * p) p
 run_length p k xs = omega (arith, length-take p (drop (k * p) xs), length-drop (k * p) xs)

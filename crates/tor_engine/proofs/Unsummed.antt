@@ -1,5 +1,5 @@
 -- Pieces whose SHA-1s are owed: each gets its own, and so does each unit of a worker.
-use Rattle.std.proofs.Common.{◌≡◌, ◌≤◌, ◌+◌, ℕ, List, [], ◌∷◌, ◌++◌, drop, length, map, take, sum_by, is_some, Option}
+use Rattle.std.proofs.Common.{◌≡◌, ◌+◌, ℕ, List, [], ◌∷◌, drop, length, map, take, sum_by, is_some, Option}
 use Rattle.std.proofs.Common.{refl, ap, ap₂, ◌∙◌, arith, suc}
 use Rattle.std.proofs.lemmas.List.{drop-take, take-take}
 use Rattle.std.proofs.lemmas.List.Sums.{sum_by-cons}

@@ -1,4 +1,4 @@
-//! The lengths of files that may be missing, asked of their source.
+//! The lengths of files that may be missing, asked of their source; the first fault ends it.
 ghost use Rattle.std.specs.Prelude.{◌≡◌, ◌⊎◌, ◌<◌, ℕ, None, Ok, Some, IfErr, IfOk, MatchResult, length};
 ghost use Rattle.tor_source.specs.Source.{SourceFacts, told_length};
 ghost use Rattle.tor_sums.specs.Fault.{IsFault};

@@ -1,4 +1,4 @@
-//! The lengths of files that may be missing, as far as they can be asked of their source.
+//! The lengths of files that may be missing, past faults, for `find_readable`: as far as their source tells them.
 ghost use Rattle.std.specs.Prelude.{◌≡◌, ◌⊎◌, ◌<◌, [], ℕ, None, Ok, IfErr, IfOk, IsSome, List, Option, length};
 ghost use Rattle.std.specs.Prelude.{option_map, slice_index_or};
 ghost use Rattle.std.specs.List.{AllByRecursion, flat_map, range_with_len};

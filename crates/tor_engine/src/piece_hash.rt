@@ -11,11 +11,13 @@ ghost use Rattle.tor_engine.specs.PieceHashes.{hash_of_parts, merkle_hash, piece
 ghost use Rattle.tor_sums.specs.steps.Hashes.{bytes_of_part};
 ghost use Rattle.tor_engine.specs.declared.piece_hash.TheConstants.{SUM_LENGTH};
 ghost use Rattle.tor_engine.specs.steps.Pieces.{HasPieces, IsPiece, hashes_in, owed_to_piece, paid_piece};
+ghost use Rattle.tor_engine.specs.steps.Unsummed.{found_of};
 
 use tor_merkle::laws::root_of_short_content;
 use tor_merkle::{FedTree, Hash};
 use tor_plan::{Plan, PlanUnit};
 use tor_sums::Owed;
+use tor_tree::Kind;
 
 /// The bytes of a SHA-1.
 const SUM_LENGTH: usize = 20;
@@ -94,7 +96,14 @@ pub(crate) fn piece_of_tree(plan: &Plan, piece: &PlanUnit, tree: Option<FedTree>
     ensures there { is_some (hashes_in result) ≡ true }
 {
     let v2 = merkle_hash_of_piece(plan, piece, tree);
-    if plan.kind().has_v1() {
+    found_of(plan.kind(), v2)
+}
+
+/// What is found of a piece that has this Merkle hash, none in V1.
+pub(crate) fn found_of(kind: Kind, v2: Option<Hash>) -> FoundPiece
+    ensures { result ≡ found_of kind v2 }
+{
+    if kind.has_v1() {
         FoundPiece::Unsummed(v2)
     } else {
         FoundPiece::Hashed(PieceHash { v1: None, v2 })

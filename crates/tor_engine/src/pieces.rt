@@ -231,7 +231,7 @@ fn has_long_padding(units: &[PlanUnit], piece_length: u64) -> bool
 }
 
 /// Whether this one has: before its parts, or after one of them.
-fn has_long_zeros(unit: &PlanUnit, piece_length: u64) -> bool
+pub(crate) fn has_long_zeros(unit: &PlanUnit, piece_length: u64) -> bool
     ensures { result ≡ has_long_zeros piece_length unit.now }
 {
     unit.zeros >= piece_length || has_long_zeros_after(unit.parts.as_slice(), piece_length)

@@ -34,7 +34,7 @@ pub(crate) fn take_units<W: UnitWork>(
         (W.fault work.now) (W.gave work.now) units.now (knows seat.old) (knows seat.new) result }
 {
     let mut share = Share::new(work.alloc());
-    // A worker begins with the first unit that is claimed: before it there is none to fail where memory is refused.
+    // A worker begins with the first unit that is claimed: before it there is none to fail if memory is refused.
     let mut worker = None;
     'claims: while let Some(job) = board.claim(seat) {
         match take_unit(work, units, board, seat, job, &mut worker, &mut share) {

@@ -1,8 +1,7 @@
-//! The pieces of a unit hashed together: where the unit is wholly there it is read as one, so that the blocks of
-//! several pieces are hashed side by side.
+//! The pieces of a unit hashed together: if the unit is wholly there it is read as one, so that a file is not opened
+//! for each of its pieces, and several pieces are hashed side by side.
 ghost use Rattle.std.specs.Prelude.{◌≡◌, ◌++◌, ◌<◌, ◌∷◌, [], true, ℕ, List, None, Some, IfErr, IfOk, MatchResult};
-ghost use Rattle.std.specs.Prelude.{length};
-ghost use Rattle.std.specs.Prelude.{map, slice_index_or};
+ghost use Rattle.std.specs.Prelude.{false, length, map, replicate, slice_index_or};
 ghost use Rattle.tor_merkle.specs.Feeding.{Feeding};
 ghost use Rattle.tor_merkle.specs.Layer.{piece_roots};
 ghost use Rattle.tor_plan.specs.Pieces.{pieces_of_unit};
@@ -18,38 +17,38 @@ ghost use Rattle.tor_sums.specs.steps.Owing.{Owes};
 ghost use Rattle.tor_engine.specs.steps.Pieces.{AreTold, IsUnitToHash, unit_pieces_fault};
 ghost use Rattle.tor_engine.specs.steps.Unsummed.{FindsPiece, IsTogether, found_of};
 
-use crate::piece_hash::{FoundPiece, PieceHash};
+use crate::piece_hash::{FoundPiece, found_of};
 use crate::piece_work::Known;
+use crate::pieces::has_long_zeros;
 use crate::present::is_there;
 use std::alloc::{AllocError, Global};
 use tor_merkle::{FedTree, Hash};
 use tor_plan::{Plan, PlanUnit};
-use tor_sums::{EngineError, FileBytes, OwingSums, tree_of_unit};
+use tor_sums::{EngineError, FileBytes, OwingSums, tree_of_unit, unit_length};
 use tor_tree::Kind;
 use tor_v1::laws::length_of_sums;
 
-/// Whether the pieces of a unit are hashed together: they are of one file that has more than one, and all their bytes
-/// are there.
+/// Whether the pieces of a unit are hashed together: all their bytes are there, and `can_be_together`.
 pub(crate) fn is_together(plan: &Plan, known: &Known, unit: &PlanUnit) -> bool
     requires planned { IsPlan plan.now }
     requires unit { IsUnitToHash plan.now unit.now }
     ensures { result ≡ true → IsTogether plan.now known.now.lengths.items unit.now }
 {
-    if !is_of_long_file(plan, unit) {
+    if !can_be_together(plan, unit) {
         return false;
     }
     is_there(&known.lengths, unit)
 }
 
-/// Whether a unit has a tree, and is of a file that is longer than a piece.
-fn is_of_long_file(plan: &Plan, unit: &PlanUnit) -> bool
+/// Whether the pieces of a unit can be hashed together if all are there. In a kind with trees its file has to be longer
+/// than a piece. In another no piece may be padding alone: the SHA-1 of such a piece is known without hashing it.
+fn can_be_together(plan: &Plan, unit: &PlanUnit) -> bool
     requires { IsUnitToHash plan.now unit.now }
-    ensures trees { result ≡ true → has_v2 plan.now.kind ≡ true }
-    ensures long { result ≡ true → (part : Part) → unit.now.parts ≡ part ∷ [] →
+    ensures { result ≡ true → has_v2 plan.now.kind ≡ true → (part : Part) → unit.now.parts ≡ part ∷ [] →
         plan.now.piece_length < slice_index_or plan.now.lengths part.file 0 }
 {
     if !plan.kind().has_v2() {
-        return false;
+        return !has_long_zeros(unit, plan.piece_length());
     }
     let Some(part) = unit.parts.as_slice().first() else {
         return false;
@@ -86,19 +85,25 @@ pub(crate) fn find_together<S: FileBytes>(
         Ok(tree) => tree,
         Err(error) => return Err(error),
     };
-    let found = pieces_of_tree(alloc, plan.kind(), tree)?;
+    let count = unit_length(unit).div_ceil(plan.piece_length());
+    let found = pieces_of_tree(alloc, plan.kind(), count as usize, tree)?;
     Ok(found)
 }
 
-/// What is found of each piece of a tree: it has a hash of the layer.
+/// What is found of each of so many pieces that were read: in a kind with trees it has a hash of the tree's layer.
 fn pieces_of_tree(
     alloc: Global,
     kind: Kind,
+    count: usize,
     tree: Option<FedTree>,
 ) -> Result<Vec<FoundPiece>, AllocError>
-    ensures { (fed : Feeding) → tree ≡ Some fed → IfOk result (λ found.
-        found.items ≡ map (found_of kind) (piece_roots fed.bytes fed.piece_length)) }
+    ensures trees { has_v2 kind ≡ true → (fed : Feeding) → tree ≡ Some fed → IfOk result (λ found.
+        found.items ≡ map (λ root. found_of kind (Some root)) (piece_roots fed.bytes fed.piece_length)) }
+    ensures bare { has_v2 kind ≡ false → IfOk result (λ found. found.items ≡ replicate count (found_of kind None)) }
 {
+    if !kind.has_v2() {
+        return Ok(vec![in alloc; found_of(kind, None); count]?);
+    }
     match tree {
         Some(tree) => pieces_of_roots(alloc, kind, &tree.piece_roots()),
         None => Ok(Vec::new(alloc)),
@@ -107,25 +112,11 @@ fn pieces_of_tree(
 
 /// What is found of pieces that have these hashes.
 fn pieces_of_roots(alloc: Global, kind: Kind, roots: &[Hash]) -> Result<Vec<FoundPiece>, AllocError>
-    ensures { IfOk result (λ found. found.items ≡ map (found_of kind) roots.now) }
+    ensures { IfOk result (λ found. found.items ≡ map (λ root. found_of kind (Some root)) roots.now) }
 {
     let mut found = Vec::with_capacity(alloc, roots.len())?;
     'roots: for root in roots {
-        found.push(found_of(kind, *root))?;
+        found.push(found_of(kind, Some(*root)))?;
     }
     Ok(found)
-}
-
-/// What is found of a piece that has this hash.
-fn found_of(kind: Kind, root: Hash) -> FoundPiece
-    ensures { result ≡ found_of kind root }
-{
-    if kind.has_v1() {
-        FoundPiece::Unsummed(Some(root))
-    } else {
-        FoundPiece::Hashed(PieceHash {
-            v1: None,
-            v2: Some(root),
-        })
-    }
 }

@@ -35,7 +35,7 @@ unfolding put
 put_at zero bytes = refl
 put_at (suc file) bytes = put_at file bytes
 
-have_one : (part : Part) (reads : List PartRead) → map (λ read. read.0) reads ≡ part ∷ []
+pub have_one : (part : Part) (reads : List PartRead) → map (λ read. read.0) reads ≡ part ∷ []
     → AllByRecursion (λ read. length read.1 ≡ read.0.length) reads
     → (contents : List (List ℕ)) × HaveRead contents reads × (length (bytes_of_part contents part) ≡ part.length)
 have_one part [] are whole = cc

@@ -1,6 +1,5 @@
 -- Pieces that were found while their SHA-1s are owed. Only private clauses cite these.
 use Rattle.std.specs.Prelude.{◌≡◌, ◌∷◌, ◌<◌, [], ℕ, List, length, is_some, slice_index_or, sum_by, true, Option, None}
-use Rattle.std.specs.Prelude.{Some}
 use Rattle.std.specs.Prelude.{if◌then◌else◌}
 use Rattle.tor_plan.specs.Pieces.{pieces_of_unit}
 use Rattle.tor_plan.specs.PlanFacts.{PlanFacts}
@@ -44,14 +43,13 @@ abbrev pub OwePieces : {F : Type 0} → (SourceFacts F → Type 0) → PlanFacts
 OwePieces is_steady plan told unit one own =
     OweEach (FindsPiece is_steady plan told) (pieces_of_unit plan.piece_length unit) one.pieces own
 
--- the pieces of a unit can be hashed together: the kind has trees, its file is longer than a piece, and all its bytes
--- are there by the lengths that were told
+-- the pieces of a unit can be hashed together: all its bytes are there by the lengths that were told, and in a kind
+-- with trees its file is longer than a piece
 pub record IsTogether (plan : PlanFacts) (told : List (Option ℕ)) (unit : PlanUnit) : Type 0 where
-  pub trees : has_v2 plan.kind ≡ true
-  pub long : (part : Part) → unit.parts ≡ part ∷ []
+  pub long : has_v2 plan.kind ≡ true → (part : Part) → unit.parts ≡ part ∷ []
       → plan.piece_length < slice_index_or plan.lengths part.file 0
   pub there : is_within told unit ≡ true
 
--- what was found of a piece that has this root in its file's layer
-abbrev pub found_of : Kind → List ℕ → FoundPiece
-found_of kind root = if has_v1 kind then Unsummed (Some root) else Hashed (record { v1 = None; v2 = Some root })
+-- what was found of a piece that has this Merkle hash, none in V1
+abbrev pub found_of : Kind → Option (List ℕ) → FoundPiece
+found_of kind v2 = if has_v1 kind then Unsummed v2 else Hashed (record { v1 = None; v2 = v2 })

@@ -1,5 +1,5 @@
 -- each piece gets what is owed to it
-use Rattle.std.proofs.Common.{◌≤◌, ◌∙◌, List, ap, arith, length, map, refl, replicate, subst, sum_by, sym}
+use Rattle.std.proofs.Common.{◌∙◌, List, ap, arith, length, map, refl, replicate, subst, sum_by, sym}
 use Rattle.tor_sums.specs.steps.Each.{SumUpEach}
 use Rattle.tor_sums.specs.steps.Owing.{paid_each}
 use Rattle.tor_engine.specs.declared.piece_work.UnitPieces.{UnitPieces}

@@ -1,5 +1,5 @@
 -- each unit gets what is owed to it
-use Rattle.std.proofs.Common.{◌≤◌, ◌∙◌, List, ap, arith, length, map, refl, subst, sum_by, sym}
+use Rattle.std.proofs.Common.{◌∙◌, List, ap, arith, length, map, refl, subst, sum_by, sym}
 use Rattle.tor_sums.specs.declared.unit_sums.UnitSums.{UnitSums}
 use Rattle.tor_sums.specs.steps.Each.{SumUpEach}
 use Rattle.tor_sums.specs.steps.Owing.{owed_to_unit, paid_each, paid_one}
