@@ -73,7 +73,7 @@ fn sees_failure(cells: &Cells, seat: &mut TableSeat) -> bool
     cells.load::<Look>(seat, LEAST_FAILED) != NONE_FAILED
 }
 
-// One step: the number that is found is the seat's, where the board has such a unit.
+// One step: the number that is found is the seat's, if the board has such a unit.
 fn next_number(cells: &Cells, seat: &mut TableSeat) -> u64
     requires table { seat.old.table_id ≡ cells.now.table_id }
     requires shape { IsShape cells.now.table_id.words cells.now.table_id.slots cells.now.key }

@@ -24,7 +24,7 @@ pub struct CommonKeys<'t, 'a> {
     pub is_private: bool,
 }
 
-/// The head of a torrent; or the first of V2 to V7.
+/// The keys that all kinds have (a `Head` is what `tor_meta` makes a torrent by); or the first of V2 to V7.
 pub fn read_head<'t, 'a>(
     alloc: Global,
     root: &'t ItemRef<'a>,

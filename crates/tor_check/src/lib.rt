@@ -17,7 +17,7 @@
 //! The root and the keys that all kinds have: `head.rt`. The v1 side: `marks.rt` and `listed.rt` read it,
 //! `list_side.rt` judges it; the v2 side: `tree_side.rt`; both: `sides.rt`. Piece layers: `layer_keys.rt`, `layers.rt`,
 //! `layer_texts.rt`, `layer_roots.rt`, `shared_layers.rt`.
-//! Where the sides of a hybrid agree: `agree.rt`, judged in `alignment.rt`. What is told: `views.rt`, `described.rt`.
+//! Whether the sides of a hybrid agree: `agree.rt`, judged in `alignment.rt`. What is told: `views.rt`, `described.rt`.
 //! `parts.rt` reads single keys.
 #![tactic(auto)]
 

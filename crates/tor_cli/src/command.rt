@@ -157,7 +157,7 @@ fn request_of<'a, T: Threads>(
     }
 }
 
-/// What is wrong with words that `clap` let through: their piece length, or their number of workers.
+/// What is wrong with words that `clap` let through: a piece length, a part, `--null` alone, or the workers.
 fn unread(alloc: Global, matches: &ArgMatches<'_>) -> Result<Fault, AllocError>
     ensures { IfOk result IsOfWords }
 {

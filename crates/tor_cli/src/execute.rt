@@ -160,7 +160,7 @@ fn tell<E: Write>(outcome: &Result<Answer, Fault>, err: &mut E) -> u8
     match outcome {
         Ok(answer) => answer.status(),
         Err(fault) => {
-            // Where nobody reads the line, the status still tells.
+            // If nobody reads the line, the status still tells.
             let _ = writeln!(err, "tor: {fault}");
             fault.status()
         }

@@ -92,7 +92,7 @@ impl BlockHasher {
         }
     }
 
-    // Adds at most eight whole blocks, where none is begun.
+    // Adds at most eight whole blocks, if none is begun.
     fn add_run(&mut self, run: &[u8])
         requires { FitsRun self.old run.now }
         ensures height { self.new.height ≡ self.old.height }
@@ -168,7 +168,7 @@ impl BlockHasher {
         blocks.end_with_run(piece_length, run)
     }
 
-    // How many of so many last bytes are hashed at once, from the beginning of a block on; none where they are few.
+    // How many of so many last bytes are hashed at once, from the beginning of a block on; none if they are few.
     fn last_run(&self, count: usize) -> usize
         ensures within { result ≤ count }
         ensures few { result ≤ RUN_LENGTH }
@@ -179,7 +179,7 @@ impl BlockHasher {
         if run < LEAST_RUN { 0 } else { run }
     }
 
-    // The tree with the leaves of at most eight last blocks, where none is begun.
+    // The tree with the leaves of at most eight last blocks, if none is begun.
     fn end_with_run(self, piece_length: u64, run: &[u8]) -> FedTree
         requires keeps { KeepsFeeding piece_length (after_bytes self run.now) }
         requires whole { length self.bytes % BLOCK_LENGTH ≡ 0 }

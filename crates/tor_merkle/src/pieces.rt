@@ -97,7 +97,7 @@ impl PieceTree {
         }
     }
 
-    // The root of the tree over all leaves, and the hashes of the pieces where there is more than one.
+    // The root of the tree over all leaves, and the hashes of the pieces if there is more than one.
     pub(crate) fn finish(self) -> (Hash, Vec<Hash>)
         requires some { 0 < length self.leaves }
         requires room { div_ceil (length self.leaves) (2 ^ self.height) ≤ self.capacity }
@@ -119,7 +119,7 @@ impl PieceTree {
         (pieces.root(), layer)
     }
 
-    // The hash of each piece, the last widened where it is short.
+    // The hash of each piece, the last widened if it is short.
     pub(crate) fn piece_roots(self) -> Vec<Hash>
         requires { div_ceil (length self.leaves) (2 ^ self.height) ≤ self.capacity }
         ensures { result.items ≡ nodes 0 self.leaves self.height }
@@ -138,7 +138,7 @@ impl PieceTree {
     }
 }
 
-// Ends the present piece, widened by zero subtrees where it is short.
+// Ends the present piece, widened by zero subtrees if it is short.
 fn close_piece(height: u32, blocks: &mut Stack, pieces: &mut Stack, layer: &mut Vec<Hash>)
     requires { EndsPiece height blocks.old pieces.old (vec_len layer.old) (vec_capacity layer.old) }
     ensures closed { ClosesPiece height blocks.old blocks.new pieces.old pieces.new layer.old.items layer.new.items }

@@ -80,7 +80,7 @@ fn is_at(fault: &(u64, Option<u64>, u64), file: u64, offset: Option<u64>) -> boo
     fault.0 == file && fault.1 == offset
 }
 
-// The first byte after `start` and before `end` at which there is a fault, or `end` where there is none.
+// The first byte after `start` and before `end` at which there is a fault, or `end` if there is none.
 fn next_fault(faults: &[(u64, Option<u64>, u64)], file: u64, start: u64, end: u64) -> u64
     requires { start < end }
     ensures after { start < result }
@@ -94,7 +94,7 @@ fn next_fault(faults: &[(u64, Option<u64>, u64)], file: u64, start: u64, end: u6
     next
 }
 
-// The byte of this fault where it is after `start` and before `next`, or else `next`.
+// The byte of this fault if it is after `start` and before `next`, or else `next`.
 fn nearer(fault: &(u64, Option<u64>, u64), file: u64, start: u64, next: u64) -> u64
     requires { start < next }
     ensures after { start < result }

@@ -58,7 +58,7 @@ impl<R: Files> LazyFile<R> {
         }
     }
 
-    // Opens the file where it was not opened yet.
+    // Opens the file if it was not opened yet.
     fn open(&mut self) -> io::Result<()> {
         if let State::Unopened = self.state {
             self.state = State::Failed;

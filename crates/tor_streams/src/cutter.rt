@@ -30,7 +30,7 @@ pub(crate) struct Cutter {
     // As long as a unit; its front waits to be cut.
     buffer: Vec<u8>,
     filled: usize,
-    // The last chunk that was cut, and the zeros that follow it where another one comes.
+    // The last chunk that was cut, and the zeros that follow it if another one comes.
     held: Option<Chunk>,
     zeros: u64,
     // The number of the next chunk.
@@ -179,7 +179,7 @@ impl Cutter {
         }
     }
 
-    // Ends a content of so many bytes: where each is cut by itself, what waits of it is its last chunk.
+    // Ends a content of so many bytes: if each is cut by itself, what waits of it is its last chunk.
     fn end_content<T: Wait>(
         &mut self,
         rt: &T,

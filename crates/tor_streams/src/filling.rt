@@ -1,4 +1,4 @@
-//! A buffer filled from a reader, and why a reader is not read on.
+//! A buffer filled from a reader (`fill` of `tor_source`), and why a reader is not read on.
 ghost use Rattle.std.specs.Prelude.{◌≡◌, ◌+◌, ◌^◌, ◌<◌, ◌≤◌, ◌++◌, ℕ, List, IfErr, IfOk, length, take};
 ghost use Rattle.std.specs.Io.KnownBytes.{Consumes, IsAtEnd};
 ghost use Rattle.tor_source.specs.Filling.{EndsFill};

@@ -93,7 +93,7 @@ impl Spares {
         let _ = self.ready.pop();
     }
 
-    // Takes what was given back. Where none is ready then, and too much would be held with so many bytes beside what is
+    // Takes what was given back. If none is ready then, and too much would be held with so many bytes beside what is
     // handed out, waits for more.
     fn make_room<T: Wait>(&mut self, rt: &T, beside: usize) {
         self.collect(rt);
@@ -128,7 +128,7 @@ impl Spares {
         }
     }
 
-    // Takes one that was given back; where memory for it is refused it is let go.
+    // Takes one that was given back; if memory for it is refused it is let go.
     fn take_back(&mut self, buffer: Vec<u8>)
         ensures { self.new.lent ≡ self.old.lent - vec_len buffer }
     {

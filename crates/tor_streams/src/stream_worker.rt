@@ -53,7 +53,7 @@ impl StreamWorker {
         unreachable!()
     }
 
-    // Hashes a chunk, where no memory was refused before.
+    // Hashes a chunk, if no memory was refused before.
     fn add(&mut self, alloc: Global, chunking: Chunking, chunk: &Chunk)
         requires { IsChunking chunking }
         ensures taker { self.new.taker ≡ self.old.taker }

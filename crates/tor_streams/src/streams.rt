@@ -23,7 +23,7 @@ pub const MAX_UNIT_LENGTH: u64 = 1 << 30;
 /// piece of each content that a byte of a later one follows, and with a tail that of the last content with bytes too.
 ///
 /// Such a unit has at most eight pieces, and of pieces of more than 1 MiB one, unless the kind has SHA-1, the span at
-/// least eight pieces, and a piece at most 8 MiB: then it has eight. At most 192 MiB of units are held, or two units if
+/// least eight pieces, and a piece at most 16 MiB: then it has eight. At most 192 MiB of units are held, or two if
 /// those are longer.
 ///
 /// # Errors

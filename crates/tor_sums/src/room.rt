@@ -35,7 +35,7 @@ pub(crate) struct Room {
     bytes: Vec<u8>,
     // The first so many bytes are held.
     held: usize,
-    // So many are hashed together, where as many are held.
+    // So many are hashed together, if as many are held.
     batch: usize,
     ghost within: { held ≤ vec_len bytes },
     ghost many: { LEAST_ASKED ≤ batch },
@@ -180,7 +180,7 @@ impl Room {
         count
     }
 
-    // How many bytes are asked for where so many are left: up to a whole batch, and few only where few are left.
+    // How many bytes are asked for if so many are left: up to a whole batch, and few only if few are left.
     fn asked(&self, left: u64) -> usize
         requires left { 0 < left }
         requires room { HasRoom left self.now }

@@ -244,7 +244,7 @@ impl WorkerSums {
         Ok(count)
     }
 
-    // Hashes a batch where one is held, or where there is little room for the bytes that are left.
+    // Hashes a batch if one is held, or if there is little room for the bytes that are left.
     fn make_room(&mut self, left: u64) -> Result<(), AllocError>
         ensures keeps { OnOk result (Keeps self.old self.new) }
         ensures begun { begun_of self.new ≡ begun_of self.old }

@@ -21,7 +21,7 @@ static ZEROS: [u8; ZEROS_LENGTH] = [0; ZEROS_LENGTH];
 #[derive(Drop)]
 pub struct PieceSums {
     piece_length: u64,
-    // How many bytes of the present piece were fed, 0 where none is begun.
+    // How many bytes of the present piece were fed, 0 if none is begun.
     begun: u64,
     hasher: Sha1,
     // The hashes of the whole pieces, with room for that of the present one.
@@ -148,7 +148,7 @@ impl PieceSums {
         self.begun == 0 && has_runs(self.piece_length) && left >= 8 * self.piece_length as usize
     }
 
-    // Adds eight whole pieces, where none is begun.
+    // Adds eight whole pieces, if none is begun.
     fn add_run(&mut self, run: &[u8])
         requires fits { FitsRun self.old (length run.now) }
         requires length { length run.now ≡ 8 * self.old.piece_length }
@@ -159,7 +159,7 @@ impl PieceSums {
         end_run(run, self.piece_length as usize, &mut self.sums);
     }
 
-    // Adds zeros, at most `left`, and answers how many: whole pieces where none is begun, else of one piece.
+    // Adds zeros, at most `left`, and answers how many: whole pieces if none is begun, else of one piece.
     fn add_zeros(&mut self, left: u64) -> u64
         requires some { 0 < left }
         requires small { left ≤ max_piece_length }
@@ -180,7 +180,7 @@ impl PieceSums {
         count
     }
 
-    // Adds so many whole pieces of zeros, where none is begun. All have one hash, which is computed once.
+    // Adds so many whole pieces of zeros, if none is begun. All have one hash, which is computed once.
     fn add_zero_pieces(&mut self, count: u64)
         requires none { self.old.begun ≡ 0 }
         requires room { HasRoom self.old (count * self.old.piece_length) }

@@ -1,4 +1,4 @@
-//! `tor make`: its doing.
+//! `tor make`, of standard input or of PATH: the order, the torrent, and where it goes.
 ghost use Rattle.std.specs.Prelude.{◌≡◌, ◌⊎◌, ◌<◌, ◌∷◌, [], ℕ, List, Option, IfErr, IfOk, OnOk, None, Some, length};
 ghost use Rattle.std.specs.Prelude.{true};
 ghost use Rattle.std.specs.Prelude.{IfSome, option_map};

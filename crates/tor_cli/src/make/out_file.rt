@@ -99,8 +99,8 @@ fn try_writing(system: &HostRuntime, place: &str) -> io::Result<()> {
     Ok(())
 }
 
-/// Tries whether a file can be made here, as one beside it can. Of a link to nothing, and where the system has another
-/// reason against that one, as the length of its name, opening it tells.
+/// Tries whether a file can be made here, as one beside it can. A link to nothing is not tried; and if only the one
+/// beside cannot be made, since its name is longer, opening the file tells later.
 fn try_making(system: &HostRuntime, place: &str) -> io::Result<()> {
     let Ok(beside) = format!(in system.alloc(); "{place}.unmade") else {
         return Ok(());

@@ -1,4 +1,4 @@
-//! What tells which pieces of a torrent a source has, and which of its files.
+//! Looks for the pieces and files of a torrent in a source. `report.rt` prints them; the texts here are a lot's.
 ghost use Rattle.std.specs.Prelude.{◌≡◌, ◌≢◌, [], Err, IfErr, IfOk, OnOk, MatchResult, None, false, length, map, string_bytes, true};
 ghost use Rattle.tor_cli.specs.recheck.Recheck.{counts_text, recheck_answer, recheck_text};
 ghost use Rattle.tor_cli.specs.steps.Reporting.{IsReportOf, IsReportedOn};
