@@ -2,7 +2,7 @@
 # has set `root`.
 LC_ALL=C
 export LC_ALL
-unset IFS CDPATH GREP_OPTIONS GZIP
+unset IFS CDPATH GREP_OPTIONS GZIP proofs
 
 # Tells a text in one line, after the name of the program that tells it, tor if none is given.
 say() {
@@ -59,11 +59,16 @@ has_digest() {
     [ "$(sha256sum 2>/dev/null <"$1")" = "$2  -" ]
 }
 
-# Whether a folder belongs to this user or to root, and no other can write it. A link to one counts as none.
+# Sets `alone` to what find is asked of a folder: that it belongs to this user or to root, and no other can write it.
+set_alone() {
+    alone='-prune -type d ! -perm -020 ! -perm -002'
+    if ! [ -O "$1" ]; then alone="$alone -user 0"; fi
+}
+
+# Whether a folder is so. A link to one counts as none.
 is_ours_alone() {
-    owned='-user 0'
-    if [ -O "$1" ]; then owned=; fi
-    [ -n "$(find "$1" -prune -type d $owned ! -perm -020 ! -perm -002 2>/dev/null)" ]
+    set_alone "$1"
+    [ -n "$(find "$1" $alone 2>/dev/null)" ]
 }
 
 # Makes a folder, if it is not there: whether it can be written here, and by no other.
@@ -97,12 +102,14 @@ starts() {
     return 1
 }
 
-# Removes what is of other sources from out/, and what an interrupted run left there an hour ago or more. Another run
-# may do the same.
+# Removes what is of other sources from out/, and what an interrupted run left there an hour ago or more; of the same
+# sources what is of other proofs, if `proofs` tells which count. Another run may do the same.
 clear_old() {
-    find "$root/out" -maxdepth 1 -type d -name 'proved.*' ! -name "proved.$digest.*" -exec rm -rf {} + 2>/dev/null ||
+    counts=$digest.${proofs-*}
+    find "$root/out" -maxdepth 1 -type d -name 'proved.*' ! -name "proved.$counts.*" -exec rm -rf {} + 2>/dev/null ||
         true
-    find "$root/out" -maxdepth 1 -type f \( \( \( -name 'tor.*' -o -name 'built.*' \) ! -name "*.$digest" \) \
+    find "$root/out" -maxdepth 1 -type f \( \( -name 'tor.*' ! -name "*.$digest" \) \
+        -o \( -name 'built.*' ! -name "*.$counts" \) \
         -o \( \( -name 'unpacking.*' -o -name 'building.*' \) -mmin +60 \) \) -exec rm -f {} + 2>/dev/null || true
 }
 

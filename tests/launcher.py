@@ -2,6 +2,7 @@
 others that do not."""
 import gzip
 import hashlib
+import itertools
 import os
 import shutil
 import struct
@@ -18,6 +19,20 @@ PLACES = ['bin/tor', 'share/man/man1/tor.1', 'share/bash-completion/completions/
 PATH = ':'.join(place for place in os.environ['PATH'].split(':') if not os.path.exists(os.path.join(place, 'rt')))
 
 
+def sha256(place):
+    return hashlib.sha256(Path(place).read_bytes()).hexdigest()
+
+
+def digest_of(root, *kinds, crates=('tor',)):
+    """That of the files of these kinds, of crates.txt and of HANDLES: of their digests and names, one line each."""
+    places = ['crates.txt', 'HANDLES']
+    for folder in (f'crates/{crate}/{kind}' for crate in crates for kind in kinds):
+        found = [path for path in (root / folder).rglob('*') if path.suffix in ('.rt', '.antt')]
+        places += [str(path.relative_to(root)) for path in found]
+    lines = [f'{sha256(root / place)}  {place}\n' for place in sorted(places)]
+    return hashlib.sha256(''.join(lines).encode()).hexdigest()
+
+
 class Clone:
     """A clone of few sources, with a program in dist/."""
 
@@ -31,10 +46,13 @@ class Clone:
         main = self.root / 'crates' / 'tor' / 'src' / 'main.rt'
         main.parent.mkdir(parents=True)
         main.write_text('fn main() {}\n')
+        main.with_name('words.rt').write_text('')
+        (self.root / 'crates/tor/proofs').mkdir()
+        (self.root / 'crates/tor/proofs/main.antt').write_text('lemma')
         (self.root / 'crates.txt').write_text('tor:\n')
         (self.root / 'HANDLES').write_text('Handles allowed: none.\n')
         self.pack(program)
-        self.digest = self.run('tor', '--sources').out.decode().strip()
+        self.digest = digest_of(self.root, 'src', 'specs')
         self.name(program)
 
     def pack(self, program):
@@ -189,12 +207,18 @@ def unpacked(clone):
     return next((clone.root / 'out').glob('tor.*'))
 
 
+def seen_of(clone):
+    """Where the clone keeps what it saw since this machine was started."""
+    told = Path('/proc/sys/kernel/random/boot_id')
+    return clone.root / 'out' / f'seen.{told.read_text().strip() if told.exists() else unpacked_processor(clone)}'
+
+
 def with_seen(clone):
     """The clone, once it has kept what it saw; just made files are too young for that."""
     time.sleep(3.1)
     clone.run('tor', '--version')
     clone.run('tor', '--version')
-    expect_equal('what was seen is kept', 1, len(list((clone.root / 'out').glob('seen.*'))))
+    expect_equal('what was seen is kept', [seen_of(clone)], list((clone.root / 'out').glob('seen.*')))
     return clone
 
 
@@ -243,6 +267,19 @@ def test_dist_is_compared(_, folder):
     expect_equal('the folder to install in', False, (folder / 'prefix').exists())
 
 
+def test_what_is_not_named_is_not_run(_, folder):
+    """Nothing in out/ is run if built-from has the sources, but no program, however often it is called."""
+    (good, _), (bad, bad_log) = script(folder), script(folder, 'bad')
+    clone = Clone(folder, good)
+    expect_equal('status', 0, clone.run('tor', '--version').status)
+    unpacked(clone).write_bytes(bad)
+    (clone.root / 'dist' / 'built-from').write_text(clone.digest + '\n')
+    time.sleep(3.1)
+    for _ in range(3):
+        expect_equal('status', 70, clone.run('tor', '--version').status)
+    expect_equal('whether it was run', False, bad_log.exists())
+
+
 def test_install_compares(_, folder):
     """The archive's installer puts no program that its built-from does not name."""
     (good, log), (bad, _) = script(folder), script(folder, 'bad')
@@ -285,24 +322,40 @@ def test_out_that_others_can_write(_, folder):
     clone.run('tor', '--version')
     place = unpacked(clone)
     with_seen(clone)
-    place.write_bytes(bad)
     before = sorted(os.listdir(place.parent))
     runs = len(log.read_text().splitlines())
-    for mode in 0o777, 0o775, 0o757, 0o1777:
+    # What others could write there: what was seen as it is, without the first file, and with the line of the folder.
+    lines = seen_of(clone).read_text().splitlines(keepends=True)
+    forged = [lines, lines[:1] + lines[2:], [lines[0], 'out\n', *lines[1:]]]
+    for text, mode in itertools.product([*forged, None], (0o777, 0o775, 0o757, 0o1777)):
+        if text:
+            seen_of(clone).write_text(''.join(text))
+        else:
+            place.write_bytes(bad)
         place.parent.chmod(mode)
         clone.expect(Told(0, b'', b''), 'tor', 'check', f'{mode}')
         expect_equal('the runs', ['--version', f'check {mode}'], log.read_text().splitlines()[runs:])
         expect_equal('what is left', (before, []), clone.left())
         runs += 2
     place.parent.chmod(0o755)
-    place.parent.rename(folder / 'elsewhere')
-    (clone.root / 'out').symlink_to(folder / 'elsewhere')
-    clone.expect(Told(0, b'', b''), 'tor', 'check', 'a link')
-    expect_equal('what was run of it', (False, 'check a link'), (bad_log.exists(), log.read_text().splitlines()[-1]))
-    (clone.root / 'out').unlink()
-    (folder / 'elsewhere').rename(clone.root / 'out')
+    for content in good, bad:
+        place.write_bytes(content)
+        if content == good:
+            with_seen(clone)
+        runs = len(log.read_text().splitlines())
+        place.parent.rename(folder / 'elsewhere')
+        (clone.root / 'out').symlink_to(folder / 'elsewhere')
+        clone.expect(Told(0, b'', b''), 'tor', 'check', 'a link')
+        expect_equal('what was run of it', (False, ['--version', 'check a link']),
+                     (bad_log.exists(), log.read_text().splitlines()[runs:]))
+        (clone.root / 'out').unlink()
+        (folder / 'elsewhere').rename(clone.root / 'out')
     clone.expect(Told(0, b'', b''), 'tor', 'check', 'alone')
     expect_equal('the program', (good, False), (place.read_bytes(), bad_log.exists()))
+    seen_of(clone).unlink()
+    os.mkfifo(seen_of(clone))
+    place.parent.chmod(0o777)
+    clone.expect(Told(0, b'', b''), 'tor', 'check', 'a pipe')
 
 
 def test_out_of_another_user(_, folder):
@@ -316,6 +369,10 @@ def test_out_of_another_user(_, folder):
     clone.run('tor', '--version')
     place = unpacked(clone)
     where = clone.expect(Told(0, os.fsencode(place) + b'\n', b''), 'tor', '--where', by=by).out
+    seen_of(clone).write_text('')
+    seen_of(clone).chmod(0)
+    clone.expect(Told(0, where, b''), 'tor', '--where', by=by)
+    seen_of(clone).unlink()
     for mode in 0o755, 0o777:
         place.write_bytes(bad)
         place.parent.chmod(mode)
@@ -359,20 +416,20 @@ def test_sources_that_cannot_be_read(_, folder):
 
 
 class Reads:
-    """How often the digest of the sources is read: each reading calls sha256sum, which is told in a file here."""
+    """Whether the digest of the sources is read: each reading calls sha256sum, whose words are told in a file here."""
 
     def __init__(self, folder):
         self.log = folder / 'reads'
         self.path = folder / 'commands'
         self.path.mkdir()
         real = shutil.which('sha256sum')
-        (self.path / 'sha256sum').write_text(f'#!/bin/sh\necho >>{self.log}\nexec {real} "$@"\n')
+        (self.path / 'sha256sum').write_text(f'#!/bin/sh\necho "$*" >>{self.log}\nexec {real} "$@"\n')
         (self.path / 'sha256sum').chmod(0o755)
 
     def expect(self, is_read, clone, wanted, note):
         self.log.write_text('')
         told = clone.run('tor', '--version', path=self.path)
-        expect_equal(note, (is_read, wanted), (self.log.read_text() != '', told))
+        expect_equal(note, (is_read, wanted), ('/src/words.rt' in self.log.read_text(), told))
 
 
 def rewritten(place, content):
@@ -396,6 +453,8 @@ def test_digest_is_read_if_something_changed(_, folder):
         (main.parent / name).write_text('fn')
     (main.parent / '.#main.rt').symlink_to('someone@somewhere')
     reads.expect(False, clone, right, 'files of editors')
+    change_proofs(clone)
+    reads.expect(False, clone, right, 'proofs')
     (folder / 'git').mkdir()
     exported = {'GIT_DIR': str(folder / 'git'), 'GIT_WORK_TREE': '/'}
     told = clone.run('tor', '--version', path=reads.path, environment=exported)
@@ -443,15 +502,156 @@ def test_digest_is_read_if_something_changed(_, folder):
     reads.expect(False, clone, build, 'of other sources, once more')
 
 
+def change_proofs(clone):
+    """Another text in one, one more, and one less."""
+    for text in 'lemma lemma', 'lemma':
+        (clone.root / 'crates/tor/proofs/main.antt').write_text(text)
+    (clone.root / 'crates/tor/proofs/deep').mkdir()
+    (clone.root / 'crates/tor/proofs/deep/x.antt').write_text('')
+    (clone.root / 'crates/tor/proofs/main.antt').unlink()
+
+
+def test_digests(_, folder):
+    """Of the sources, and of the proofs: of the crates below the program, and of no other."""
+    clone = Clone(folder, b'#!/bin/sh\n')
+    clone.expect(Told(0, clone.digest.encode() + b'\n', b''), 'tor', '--sources')
+    (clone.root / 'crates.txt').write_text('low: kit # a crate\nmiddle: low\nother: low\ntor: middle other_kit\n')
+    counting = ['low', 'middle', 'tor']
+
+    def wanted():
+        return [digest_of(clone.root, *kinds, crates=counting) for kinds in (('src', 'specs'), ('proofs',))]
+
+    seen = [wanted()]
+    for crate, kind in itertools.product([*counting, 'other'], ['src', 'specs', 'proofs', 'must-fail']):
+        place = clone.root / 'crates' / crate / kind / 'deep/x.antt'
+        place.parent.mkdir(parents=True)
+        place.write_text(f'{crate} {kind}')
+        for digest, option in zip(wanted(), ['--sources', '--proofs']):
+            clone.expect(Told(0, digest.encode() + b'\n', b''), 'tor', option)
+        seen.append(wanted())
+        changes = [before != after for before, after in zip(*seen[-2:])]
+        expect_equal(f'{crate} {kind}: what is another', [crate in counting and kind in ('src', 'specs'),
+                                                          crate in counting and kind == 'proofs'], changes)
+
+
+def test_proofs_start_no_build(_, folder):
+    """Nor does a call go through them; a changed source and a changed definition do start one."""
+    good, log = script(folder)
+    clone = Clone(folder, good)
+    real, called = shutil.which('find'), folder / 'called'
+    (folder / 'commands').mkdir()
+    (folder / 'commands/find').write_text(f'#!/bin/sh\necho "$*" >>{called}\nexec {real} "$@"\n')
+    (folder / 'commands/find').chmod(0o755)
+    build = Told(70, b'', b'tor: it has to be built from its sources, and rt is not on the PATH\n')
+    change_proofs(clone)
+    for note in 'at first', 'once more':
+        clone.expect(Told(0, b'', b''), 'tor', note, path=folder / 'commands')
+    expect_equal('what find goes through', (True, False),
+                 ('crates/tor/src' in called.read_text(), 'proofs' in called.read_text()))
+    expect_equal('the runs', ['--version', 'at first', 'once more'], log.read_text().splitlines())
+    (clone.root / 'crates/tor/proofs/deep/x.antt').chmod(0)
+    clone.expect(Told(0, b'', b''), 'tor', 'one that cannot be read')
+    shutil.rmtree(clone.root / 'crates/tor/proofs')
+    clone.expect(Told(0, b'', b''), 'tor', 'none')
+    for kind in 'specs', 'src':
+        place = clone.root / 'crates/tor' / kind / 'x.antt'
+        place.parent.mkdir(exist_ok=True)
+        place.write_text('')
+        clone.expect(build, 'tor', kind)
+        place.unlink()
+        clone.expect(Told(0, b'', b''), 'tor', 'as it was')
+
+
+def test_commands_of_a_call(_, folder):
+    """If nothing changed it runs find and cmp, once each, and nothing else but the program. If the launcher did, what
+    was seen is seen anew."""
+    clone = Clone(folder, b'#!/bin/sh\n')
+    clone.run('tor', '--version')
+    with_seen(clone)
+    path, log = commands(folder / 'all'), folder / 'called'
+    for place in list((folder / 'all').iterdir()):
+        real = os.readlink(place)
+        place.unlink()
+        place.write_text(f'#!/bin/sh\necho {place.name} >>{log}\nexec {real} "$@"\n')
+        place.chmod(0o755)
+    clone.expect(Told(0, b'', b''), 'tor', 'check', environment={'PATH': path})
+    expect_equal('what was run', ['cmp', 'find'], sorted(log.read_text().split()))
+    for name in 'tor', 'dist/launch.sh':
+        with_seen(clone)
+        log.write_text('')
+        rewritten(clone.root / name, (clone.root / name).read_text())
+        clone.expect(Told(0, b'', b''), 'tor', 'check', environment={'PATH': path})
+        expect_equal(f'{name}: whether it reads again', True, 'sha256sum' in log.read_text())
+
+
+def test_another_start(_, folder):
+    """What another machine saw, or this one before it was started anew, tells nothing of machine and processor."""
+    if not Path('/proc/sys/kernel/random/boot_id').exists():
+        raise Skipped('the system does not tell one start from another')
+    clone = Clone(folder, b'#!/bin/sh\n')
+    clone.run('tor', '--version')
+    with_seen(clone)
+    seen = seen_of(clone)
+    where = clone.run('tor', '--where')
+    processor = unpacked_processor(clone)
+    expect_equal('the processor', True, f'/out/tor.{processor}.{clone.digest}\n'.encode() in where.out)
+    other = 'x86-64-v2' if processor == 'x86-64-v3' else 'x86-64-v3'
+    (folder / 'commands').mkdir()
+    (folder / 'commands/uname').write_text('#!/bin/sh\necho Linux aarch64\n')
+    (folder / 'commands/uname').chmod(0o755)
+    clone.expect(Told(0, b'', b''), 'tor', 'check', path=folder / 'commands')
+    text = seen.read_text()
+    expect_equal('the first line', f'{clone.digest} {processor} tor', text.splitlines()[0])
+    seen.rename(seen.with_name('seen.00000000-0000-4000-8000-000000000000'))
+    refused = Told(70, b'', b'tor: the program is for x86-64 Linux, and this is Linux aarch64\n')
+    clone.expect(refused, 'tor', 'check', path=folder / 'commands')
+    seen.with_name('seen.00000000-0000-4000-8000-000000000000').write_text(text.replace(processor, other))
+    clone.expect(where, 'tor', '--where')
+    expect_equal('what this start keeps', text, seen.read_text())
+    old = seen.with_name('seen.00000000-0000-4000-8000-000000000000')
+    os.utime(old, (time.time() - 40 * 86400,) * 2)
+    seen.unlink()
+    clone.run('tor', 'check')
+    expect_equal('what a month ago was kept', (False, True), (old.exists(), seen.exists()))
+
+
+def test_ways_of_calling(_, folder):
+    """By a link, through a link, by the PATH, by a shell; before and after something was seen, which tells the same."""
+    clone = Clone(folder, b'#!/bin/sh\necho "$PWD $*"\n')
+    (folder / 'bin/deep').mkdir(parents=True)
+    (folder / 'bin/tor').symlink_to('../clone/tor')
+    (folder / 'bin/deep/plover').symlink_to(folder / 'bin/tor')
+    (folder / 'linked').symlink_to(clone.root / 'docs')
+    where = Told(0, f'{clone.root.resolve()}/out/tor.{unpacked_processor(clone)}.{clone.digest}\n'.encode(), b'')
+    # Each in this folder, and by these words.
+    ways = [(folder, ['bin/tor']), (folder, ['bin/deep/plover']), (folder / 'bin', ['./tor']),
+            (folder, ['linked/../tor']), (clone.root / 'docs', ['../tor']), (clone.root, ['./tor']),
+            (clone.root, ['sh', 'tor']), (clone.root, ['bash', 'tor']), (folder / 'linked', ['sh', '../tor']),
+            (folder, ['env', f'PATH=clone:{PATH}', 'tor']), (folder, ['env', f'PATH=bin:{PATH}', 'tor']),
+            (folder, ['env', f'CDPATH=/:{folder}/bin', 'clone/tor'])]
+    for is_seen in False, True:
+        if is_seen:
+            with_seen(clone)
+        for place, words in ways:
+            if not is_seen:
+                shutil.rmtree(clone.root / 'out', ignore_errors=True)
+            for option, wanted in ('--where', where), ('check', Told(0, f'{place.resolve()} check\n'.encode(), b'')):
+                done = subprocess.run([*words, option], cwd=place, capture_output=True, check=False,
+                                      env={**os.environ, 'PATH': PATH, 'PWD': str(place.resolve())})
+                expect_told([str(place), *words, option], wanted, Told(done.returncode, done.stdout, done.stderr))
+
+
 def test_files_of_editors(_, folder):
     """They do not make the sources others; another source does."""
     clone = Clone(folder, b'#!/bin/sh\n')
-    for part in 'src', 'specs', 'proofs':
+    for part in 'proofs', 'src', 'specs':
         place = clone.root / 'crates/tor' / part / 'deep'
         place.mkdir(parents=True)
+        proofs = digest_of(clone.root, 'proofs')
         for name in ['.x.rt.swp', '.x.antt.swo', 'x.rt~', '#x.antt#', '.#x', '4913', 'x.rt.rej', 'rt']:
             (place / name).write_text('other')
         clone.expect(Told(0, clone.digest.encode() + b'\n', b''), 'tor', '--sources')
+        clone.expect(Told(0, proofs.encode() + b'\n', b''), 'tor', '--proofs')
     for name in 'x.rt', 'x.antt':
         (place / name).write_text('')
         expect_equal(name, False, clone.run('tor', '--sources').out.decode() == clone.digest + '\n')
@@ -468,11 +668,12 @@ def test_built_program(_, folder):
     (clone.root / 'out').mkdir()
     build = Told(70, b'', b'tor: it has to be built from its sources, and rt is not on the PATH\n')
     processor = unpacked_processor(clone)
-    place = clone.root / 'out' / f'built.{processor}.{clone.digest}'
+    key = f'{processor}.{clone.digest}.{digest_of(clone.root, "proofs")}'
+    place = clone.root / 'out' / f'built.{key}'
     place.write_bytes(good)
     place.chmod(0o755)
     clone.expect(build, 'tor', '--from-source', 'check')
-    (clone.root / 'out' / f'built.sum.{processor}.{clone.digest}').write_text(hashlib.sha256(good).hexdigest() + '\n')
+    (clone.root / 'out' / f'built.sum.{key}').write_text(hashlib.sha256(good).hexdigest() + '\n')
     clone.expect(Told(0, b'', b''), 'tor', '--from-source', 'check')
     expect_equal('the runs', 'check\n', log.read_text())
     clone.expect(Told(0, os.fsencode(place) + b'\n', b''), 'tor', '--from-source', '--where')
@@ -488,6 +689,77 @@ def test_built_program(_, folder):
     place.write_bytes(bad)
     clone.expect(build, 'tor', '--from-source', 'check')
     expect_equal('the other was run', False, bad_log.exists())
+
+
+BUILD = """#!/bin/bash
+echo "$1 $4 $5 ${3##*/}" >>%(log)s
+mkdir -p "$3"
+%(meanwhile)s
+printf '#!/bin/sh\\necho built $*\\n' >"$2"
+chmod +x "$2"
+"""
+
+
+def test_builds_are_of_the_proofs(_, folder):
+    """What is built, and what is proved for it, counts as long as sources and proofs are those; dist/build is another
+    here, which proves nothing."""
+    clone, log = Clone(folder, b'#!/bin/sh\necho of dist\n'), folder / 'log'
+    (folder / 'commands').mkdir()
+    (folder / 'commands/rt').write_text('#!/bin/sh\necho kit\n')
+    (folder / 'commands/rt').chmod(0o755)
+    proof, out = clone.root / 'crates/tor/proofs/main.antt', clone.root / 'out'
+    processor = unpacked_processor(clone)
+    log.write_text('')
+
+    def write_build(meanwhile=''):
+        (clone.root / 'dist/build').write_text(BUILD % {'log': log, 'meanwhile': meanwhile})
+
+    def run(is_built, *words, told='built check\n'):
+        """Runs it: whether something is built, which is told of the sources and kept by the proofs."""
+        before = len(log.read_text().splitlines())
+        came = clone.run('tor', *words, 'check', path=folder / 'commands')
+        lines = log.read_text().splitlines()[before:]
+        expect_equal('status and output', (0, told), (came.status, came.out.decode()))
+        sources, proofs = digest_of(clone.root, 'src', 'specs'), digest_of(clone.root, 'proofs')
+        wanted = [(f'{processor} {sources} {proofs}', f'proved.{sources}.{proofs}')] if is_built else []
+        expect_equal('what is built', wanted, [tuple(line.rpartition('.')[0].rsplit(' ', 1)) for line in lines])
+        if told != 'of dist\n':
+            expect_equal('what is kept', sorted(f'built.{sum}{processor}.{sources}.{proofs}' for sum in ('', 'sum.')),
+                         sorted(name for name in os.listdir(out) if not name.startswith(('tor.', 'seen.', 'lock'))))
+
+    write_build()
+    run(True, '--from-source')
+    run(False, '--from-source')
+    for text in 'lemma lemma', 'lemma':
+        proof.write_text(text)
+        run(True, '--from-source')
+        run(False, '--from-source')
+    run(False, told='of dist\n')
+    run(False, '--from-source')
+    for kind in 'specs', 'src':
+        place = clone.root / 'crates/tor' / kind / 'x.rt'
+        place.parent.mkdir(exist_ok=True)
+        place.write_text('')
+        run(True)
+        run(False)
+        run(False, '--from-source')
+        proof.write_text(kind)
+        run(True)
+        run(False)
+    for meanwhile in f'echo >>{proof}', f'echo >>{proof}; exit 1', f'echo >>{proof}; kill -TERM $PPID; sleep 9':
+        kept = sorted(os.listdir(out))
+        write_build(meanwhile)
+        (clone.root / 'crates/tor/src/x.rt').write_text(meanwhile)
+        told = clone.run('tor', '--from-source', 'check', path=folder / 'commands')
+        expect_equal(meanwhile, (143 if 'kill' in meanwhile else 70, b'', True),
+                     (told.status, told.out, b'tor: the proofs were changed meanwhile\n' in told.err))
+        expect_equal('what is left', kept, sorted(os.listdir(out)))
+    write_build('exit 1')
+    told = clone.run('tor', '--from-source', 'check', path=folder / 'commands')
+    expect_equal('that the proofs changed', False, b'meanwhile' in told.err)
+    expect_equal('what was proved stays', 1, len(list(out.glob('proved.*'))))
+    write_build()
+    run(True, '--from-source')
 
 
 def unpacked_processor(clone):
@@ -518,7 +790,7 @@ def test_environment(program, folder):
     options = {'SHELLOPTS': 'noclobber:noglob:nounset:errexit:posix:allexport:monitor',
                'BASHOPTS': 'failglob:nocasematch:xpg_echo', 'CDPATH': f'/:{folder}', 'IFS': '/.a', 'GREP_OPTIONS': '-v',
                'GZIP': '-v', 'LC_ALL': 'C.UTF-8', 'LANG': 'C.UTF-8', 'ENV': str(startup), 'HOME': None,
-               'PWD': '/absent', 'OLDPWD': '-'}
+               'PWD': '/absent', 'OLDPWD': '-', 'proofs': 'x'}
     found = [(), *shells(folder)]
     cases = [options, {**functions, 'POSIXLY_CORRECT': '1'}, {'BASH_VERSION': '5'}]
     runs = [(by, case) for by in found for case in cases]
@@ -530,6 +802,16 @@ def test_environment(program, folder):
         for _ in range(2):
             clone.expect(Told(0, b'tor 1.2.0\n', b''), 'tor', '--version', by=by, environment=case)
         clone.expect(Told(0, clone.digest.encode() + b'\n', b''), 'tor', '--sources', by=by, environment=case)
+    # What another build of these sources has proved so far.
+    proved = clone.root / f'out/proved.{clone.digest}.{clone.digest}.1'
+    proved.mkdir()
+    for by, case in runs:
+        (clone.root / 'out' / f'tor.{unpacked_processor(clone)}.{clone.digest}').unlink()
+        clone.expect(Told(0, b'tor 1.2.0\n', b''), 'tor', '--version', by=by, environment=case)
+        expect_equal('that it stays', True, proved.exists())
+    with_seen(clone)
+    for by, case in runs:
+        clone.expect(Told(0, b'tor 1.2.0\n', b''), 'tor', '--version', by=by, environment=case)
     for by, case in runs[::2]:
         shutil.rmtree(folder / 'prefix', ignore_errors=True)
         clone.expect(Told(0, lines, b''), 'dist/install', str(folder / 'prefix'), by=by, environment=case)
@@ -615,6 +897,11 @@ def test_busybox_alone(program, folder):
     (clone.root / 'crates/tor/src/a.rt').unlink()
     seen.unlink()
     clone.expect(Told(0, b'tor 1.2.0\n', b''), 'tor', '--version', by=by, environment={'PATH': path})
+    time.sleep(3.1)
+    for content, wanted in (None, Told(0, b'tor 1.2.0\n', b'')), ('fn main() { }', build):
+        if content:
+            rewritten(clone.root / 'crates/tor/src/main.rt', content)
+        clone.expect(wanted, 'tor', '--version', by=by, environment={'PATH': path})
     (clone.root / 'HANDLES').unlink()
     told = Told(70, b'', b'tor: the sources cannot be read\n')
     clone.expect(told, 'tor', '--version', by=by, environment={'PATH': path})
@@ -630,6 +917,16 @@ def test_without_proc(program, folder):
     told = clone.run('tor', '--where', by=by)
     expect_equal('the program', (0, b'tor.x86-64-v2.', b''), (told.status, told.out.split(b'/')[-1][:14], told.err))
     clone.expect(Told(0, b'tor 1.2.0\n', b''), 'tor', '--version', by=by)
+    time.sleep(3.1)
+    clone.expect(Told(0, b'tor 1.2.0\n', b''), 'tor', '--version', by=by)
+    expect_equal('what was seen', [clone.root / 'out/seen.x86-64-v2'], list((clone.root / 'out').glob('seen.*')))
+    reads = Reads(folder)
+    told = clone.run('tor', '--version', by=by, path=reads.path)
+    expect_equal('nothing changed', (b'tor 1.2.0\n', False), (told.out, reads.log.exists()))
+    (reads.path / 'uname').write_text('#!/bin/sh\necho Linux aarch64\n')
+    (reads.path / 'uname').chmod(0o755)
+    told = Told(70, b'', b'tor: the program is for x86-64 Linux, and this is Linux aarch64\n')
+    clone.expect(told, 'tor', '--version', by=by, path=reads.path)
     clone.out_of_reach()
     clone.expect(Told(1, b'', b'tor: N3 DotDot\n'), 'tor', 'make', '--name', '..', by=by, data=b'ab')
     expect_equal('temporary files', [], os.listdir(clone.temporary))
