@@ -1,18 +1,18 @@
-"""What a torrent claims in few bytes, pieces and long places: the program holds little of it before any is found."""
+"""What a recheck costs beyond the bytes that it reads. What a torrent claims in few bytes, as pieces, long places and deep
+folders, is held in little memory before any is found. A file is opened once for each unit that is wholly there."""
 import hashlib
 import os
 import resource
 
 import reference
 from reference import BLOCK, encode, root_of, sha256
-from support import done, expect
-
-# Bytes of a process's address space. The C library has one arena in it, and the program one worker.
-ROOM = 100_000 << 10
+from refuser import ALL_LATER, Meet, Refuser
+from support import done, expect, expect_equal
 
 
-def limited():
-    resource.setrlimit(resource.RLIMIT_AS, (ROOM, ROOM))
+def limited(kibibytes):
+    """Limits the address space of a process. The C library has one arena in it, and the program one worker."""
+    resource.setrlimit(resource.RLIMIT_AS, (kibibytes << 10, kibibytes << 10))
 
 
 def in_tree(tree, layers=()):
@@ -25,21 +25,23 @@ def file_of(length, root):
 
 
 def expect_nothing_there(program, folder, text, count, ways):
-    """A recheck in each of these ways finds none of so many pieces."""
+    """A recheck in each of these ways, in an address space of so many KiB, finds none of so many pieces."""
     (folder / 'torrent').write_bytes(text)
-    wanted = done(reference.recheck_lines([False] * count), 1)
-    for words in ways:
+    wanted = done(reference.recheck_lines([False] * count), 1 if count else 0)
+    for words, kibibytes in ways:
         expect(program, ['recheck', '--workers', '1', *words, str(folder / 'torrent'), str(folder)], wanted,
-               preexec_fn=limited, env={**os.environ, 'MALLOC_ARENA_MAX': '1'})
+               preexec_fn=lambda room=kibibytes: limited(room), env={**os.environ, 'MALLOC_ARENA_MAX': '1'})
 
 
 def test_pieces_of_one_layer(program, folder):
-    """200 files of one root, in half a megabyte: 3,276,800 pieces, for which there are 30 bytes each."""
+    """512 files of one root, in half a megabyte: 8,388,608 pieces, of which each may hold 7 bytes, or 11 to keep going.
+    So many fill what grows by doubling."""
     hashes = [hashlib.sha256(b'%d' % number).digest() for number in range(1 << 14)]
     root = root_of(hashes)
-    tree = {b'%03d' % number: file_of(len(hashes) * BLOCK - number, root) for number in range(200)}
+    tree = {b'%03d' % number: file_of(len(hashes) * BLOCK - number, root) for number in range(512)}
     text = in_tree(tree, {root: b''.join(hashes)}.items())
-    expect_nothing_there(program, folder, text, 200 * len(hashes), [[], ['--no-links'], ['--keep-going']])
+    expect_nothing_there(program, folder, text, 512 * len(hashes),
+                         [([], 64_000), (['--no-links'], 64_000), (['--keep-going'], 93_000)])
 
 
 def test_files_below_long_names(program, folder):
@@ -47,4 +49,30 @@ def test_files_below_long_names(program, folder):
     tree = {b'%05d' % number: file_of(1, sha256(b'a')) for number in range(30_000)}
     for letter in b'abcdefghijklmn':
         tree = {bytes([letter]) * 250: tree}
-    expect_nothing_there(program, folder, in_tree(tree), 30_000, [[], ['--no-links']])
+    expect_nothing_there(program, folder, in_tree(tree), 30_000, [([], 100_000), (['--no-links'], 100_000)])
+
+
+def test_files_below_deep_folders(program, folder):
+    """40,000 files below 95 folders, one in the other, in a megabyte: 760 bytes for the names of each path, twice."""
+    tree = {b'%05d' % number: {b'': {b'length': 0}} for number in range(40_000)}
+    for _ in range(95):
+        tree = {b'a': tree}
+    expect_nothing_there(program, folder, in_tree(tree), 0, [([], 90_000), (['--keep-going'], 90_000)])
+
+
+def test_opens_of_a_recheck(program, folder):
+    """A file of 65 pieces has five units of at most 16. Without its last byte the last of them is not there."""
+    refuser, place, torrent = Refuser(program, folder), folder / 'file', folder / 'torrent'
+    content = os.urandom(65 * BLOCK)
+    for kind in ['v1', 'v2', 'hybrid']:
+        place.write_bytes(content)
+        made = refuser.run(['make', '--name', 'file', '--kind', kind, '--piece-length', str(BLOCK), str(place)])
+        expect_equal(f'{kind}: status of make', 0, made.status)
+        torrent.write_bytes(made.out)
+        for length, there, opened in [(len(content), 65, 5), (len(content) - 1, 64, 4)]:
+            place.write_bytes(content[:length])
+            ended = refuser.run(['recheck', '--workers', '1', str(torrent), str(place)],
+                                Meet('o', 1, ALL_LATER, 'tell'))
+            expect_equal(f'{kind}, {length} bytes', reference.recheck_lines([n < there for n in range(65)]), ended.out)
+            expect_equal(f'{kind}, {length} bytes: opened', opened,
+                         sum(met.place == str(place) for met in ended.met))
