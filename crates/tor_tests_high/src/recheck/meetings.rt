@@ -151,10 +151,10 @@ const MEETINGS: &[Row] = &[
 /// The first read waits for those of the other three units. If the units are dealt out beforehand, one waits behind the
 /// first.
 const SHARES: &[Row] = &[
-    (How::Halves(2), 49, FEW, "C1 Read", true),
-    (How::Board(1), 49, FEW, "C1 Read", true),
-    (How::Board(2), 49, MANY, "none", true),
-    (How::Board(4), 49, MANY, "none", true),
+    (How::Halves(2), 4, FEW, "C1 Read", true),
+    (How::Board(1), 4, FEW, "C1 Read", true),
+    (How::Board(2), 4, MANY, "none", true),
+    (How::Board(4), 4, MANY, "none", true),
 ];
 
 const OUTSIDE: &[Row] = &[
