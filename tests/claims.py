@@ -1,5 +1,5 @@
-"""What a recheck costs beyond the bytes that it reads. What a torrent claims in few bytes, as pieces, long places and deep
-folders, is held in little memory before any is found. A file is opened once for each unit that is wholly there."""
+"""What a recheck costs beyond the bytes that it reads. What a torrent claims in few bytes, as pieces, long places and
+deep folders, is held in little memory before any is found. A file is opened once for each unit that is wholly there."""
 import hashlib
 import os
 import resource
