@@ -17,12 +17,14 @@ pub mod OnePiece
 pub mod PaidAlone
 pub mod PartsInside
 pub mod PieceNodes
+pub mod PieceRuns
 pub mod PlanFaults
 pub mod PlanPieces
 pub mod PositionFaults
 pub mod Positions
 pub mod ProvedLaws
 pub mod ReadContents
+pub mod ReadFaults
 pub mod RunRoots
 pub mod SameRows
 pub mod SeatAnswers

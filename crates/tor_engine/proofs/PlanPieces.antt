@@ -21,7 +21,7 @@ use Rattle.tor_sums.proofs.PartReads.{all_split}
 use Rattle.tor_sums.proofs.Whole.{has_no_trees, piece_is_small, units_of_plan}
 
 -- what holds of all lists that stand one after another holds of each
-each_list : {X Y : Type 0} (P : Y → Type 0) (f : X → List Y) (xs : List X) → AllByRecursion P (flat_map f xs)
+pub each_list : {X Y : Type 0} (P : Y → Type 0) (f : X → List Y) (xs : List X) → AllByRecursion P (flat_map f xs)
     → AllByRecursion (λ x. AllByRecursion P (f x)) xs
 each_list P f [] all = tt
 each_list P f (x ∷ xs) all =

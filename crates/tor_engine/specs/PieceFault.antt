@@ -39,8 +39,12 @@ first_piece_fault facts plan =
     option_or (first_asked_fault facts (length plan.lengths))
     (pieces_fault facts (contents_in facts (length plan.lengths)) (pieces_of_plan plan))
 
+-- the first fault of the lengths of all files, then of some pieces that are there (profile)
+abbrev pub some_pieces_fault : {F : Type 0} → SourceFacts F → PlanFacts → List PlanUnit → Option (EngineError F)
+some_pieces_fault facts plan pieces =
+    option_or (first_asked_fault facts (length plan.lengths))
+    (pieces_fault facts (contents_in facts (length plan.lengths)) pieces)
+
 -- the first fault of the lengths of all files, then of those pieces of some units that are there (profile)
 abbrev pub units_piece_fault : {F : Type 0} → SourceFacts F → PlanFacts → List PlanUnit → Option (EngineError F)
-units_piece_fault facts plan units =
-    option_or (first_asked_fault facts (length plan.lengths))
-    (pieces_fault facts (contents_in facts (length plan.lengths)) (pieces_of_units plan.piece_length units))
+units_piece_fault facts plan units = some_pieces_fault facts plan (pieces_of_units plan.piece_length units)

@@ -1,6 +1,6 @@
 -- What the pieces of a plan hash to, where the files have these contents. They may be shorter than the plan says, or
 -- missing: a byte past the end of a content is not there.
-use Rattle.std.specs.Prelude.{ℕ, List, [], ◌∷◌, map, take, drop, nat_le, slice_index_or, Option, None, Some}
+use Rattle.std.specs.Prelude.{ℕ, ◌-◌, List, [], ◌∷◌, map, take, drop, nat_le, slice_index_or, Option, None, Some}
 use Rattle.std.specs.Prelude.{if◌then◌else◌}
 use Rattle.std.specs.List.{flat_map}
 use Rattle.tor_merkle.specs.Block.{leaves}
@@ -23,6 +23,10 @@ pieces_of_units piece_length units = flat_map (pieces_of_unit piece_length) unit
 -- all pieces of a plan, each as a unit (profile)
 abbrev pub pieces_of_plan : PlanFacts → List PlanUnit
 pieces_of_plan plan = flat_map (pieces_of_unit plan.piece_length) plan.units
+
+-- the pieces of a plan from one number on, and before another (profile)
+abbrev pub pieces_between : PlanFacts → ℕ → ℕ → List PlanUnit
+pieces_between plan from to = take (to - from) (drop from (pieces_of_plan plan))
 
 -- the Merkle hash of a piece of a file of so many bytes: of a file longer than a piece the root over the leaves of its
 -- blocks and zero leaves up to a whole piece, as in "piece layers" of BEP 52; of another the root of the file, its
@@ -60,6 +64,10 @@ hash_if_there plan contents piece =
 -- "pieces root")
 abbrev pub piece_hashes : PlanFacts → List (List ℕ) → List (Option PieceHash)
 piece_hashes plan contents = map (hash_if_there plan contents) (pieces_of_plan plan)
+
+-- those of some pieces (BEP 3, "info dictionary"; BEP 52, "piece layers", "pieces root")
+abbrev pub hashes_of_pieces : PlanFacts → List (List ℕ) → List PlanUnit → List (Option PieceHash)
+hashes_of_pieces plan contents pieces = map (hash_if_there plan contents) pieces
 
 -- those of the pieces of some units (BEP 3, "info dictionary"; BEP 52, "piece layers", "pieces root")
 abbrev pub hashes_of_units : PlanFacts → List (List ℕ) → List PlanUnit → List (Option PieceHash)

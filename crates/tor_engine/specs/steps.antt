@@ -4,6 +4,7 @@ pub mod FoundRow
 pub mod Hashed
 pub mod Pieces
 pub mod Readable
+pub mod ReadableUnit
 pub mod RowSums
 pub mod Taken
 pub mod Unsummed

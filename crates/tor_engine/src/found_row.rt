@@ -1,5 +1,5 @@
 //! What is found of pieces that stand one after another.
-ghost use Rattle.std.specs.Prelude.{◌≡◌, ◌≤◌, drop, length, replicate, slice_index_or, sum_by};
+ghost use Rattle.std.specs.Prelude.{◌≡◌, ◌≤◌, IfOk, drop, length, replicate, slice_index_or, sum_by};
 ghost use Rattle.std.specs.List.{list_all};
 ghost use Rattle.tor_sums.specs.steps.Owing.{paid_each};
 ghost use Rattle.tor_engine.specs.declared.piece_hash.FoundPiece.TheVariants.{Missing};
@@ -7,6 +7,7 @@ ghost use Rattle.tor_engine.specs.steps.FoundRow.{is_missing};
 ghost use Rattle.tor_engine.specs.steps.Pieces.{hashes_in, owed_to_piece, paid_piece};
 
 use crate::piece_hash::{FoundPiece, PieceHash};
+use std::alloc::{AllocError, Global};
 use std::marker::Model;
 use tor_sums::pay;
 
@@ -16,13 +17,14 @@ pub(crate) struct FoundRow {
     row: Row,
 }
 
-/// If none is there, only their number is held: a torrent of half a megabyte may claim millions.
+/// If none is there, only their number is held: a torrent of half a megabyte may claim millions. For the same reason
+/// what is known of each stands behind a box, so that a row is two words long.
 #[derive(Drop)]
 pub(crate) enum Row {
     /// So many, all of them missing.
     AllMissing(usize),
     /// Each by itself.
-    Each(Vec<FoundPiece>),
+    Each(Box<Vec<FoundPiece>>),
 }
 
 impl Model for FoundRow {
@@ -37,15 +39,16 @@ impl Model for FoundRow {
 
 impl FoundRow {
     /// What was found of these.
-    pub(crate) fn of(found: Vec<FoundPiece>) -> FoundRow
-        ensures { result ≡ found.items }
+    pub(crate) fn of(alloc: Global, found: Vec<FoundPiece>) -> Result<FoundRow, AllocError>
+        ensures { IfOk result (λ row. row ≡ found.items) }
     {
         if are_missing(&found) {
-            return FoundRow::missing(found.len());
+            return Ok(FoundRow::missing(found.len()));
         }
-        FoundRow {
-            row: Row::Each(found),
-        }
+        let each = Box::new(alloc, found)?;
+        Ok(FoundRow {
+            row: Row::Each(each),
+        })
     }
 
     /// So many pieces, none of which is there.

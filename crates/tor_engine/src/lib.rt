@@ -13,14 +13,15 @@
 //!   `tor_sums`.
 //! - [`work`] (`worker_share.rt`): one worker at a board, for callers with threads of their own.
 //! - [`hash_pieces`] (`pieces.rt`): what each piece hashes to ([`PieceHash`], `piece_hash.rt`), of files that may be
-//!   cut short or missing; [`find_pieces`] tells their lengths too, and [`find_pieces_between`] does so for some units,
-//!   both with the hashes held unit by unit ([`PieceHashes`], `piece_hashes.rt`). `asked.rt` asks for the lengths,
-//!   `present.rt` tells what is there by them, and `piece_work.rt` hashes the pieces of a unit, one after the other, or
-//!   together if the unit is wholly there (`together.rt`); `found_row.rt` holds what was found of a unit.
+//!   cut short or missing; [`find_pieces`] tells their lengths too, and [`find_pieces_between`] does so for a run of
+//!   pieces, which `piece_run.rt` cuts out of the plan, both with the hashes held unit by unit ([`PieceHashes`],
+//!   `piece_hashes.rt`). `asked.rt` asks for the lengths, `present.rt` tells what is there by them, and `piece_work.rt`
+//!   hashes the pieces of a unit, one after the other, or together if the unit is wholly there (`together.rt`);
+//!   `found_row.rt` holds what was found of a unit.
 //! - [`find_readable`] (`readable.rt`): the same as far as the pieces can be read ([`ReadablePieces`]), and what could
 //!   not be ([`ReadFault`], `read_fault.rt`). `asking.rt` asks for the lengths, `seen.rt` is the source without the
 //!   files whose lengths fail, and `readable_work.rt` hashes a unit at once, and after a fault each of its pieces by
-//!   itself (`alone.rt`); `probing.rt` reads the parts of one that failed.
+//!   itself (`alone.rt`); `probing.rt` reads the parts of one that failed, and `readable_unit.rt` holds what was found.
 //! - [`hash_lot`] (`lot.rt`): the hashes of the pieces of some units ([`PieceRow`]), of which several machines each
 //!   hash others.
 //! - [`laws`] (`laws.rt`): laws over the definition of the first fault and over the hashes of units, and the limits of
@@ -52,12 +53,14 @@ mod lot;
 mod on_board;
 mod piece_hash;
 mod piece_hashes;
+mod piece_run;
 mod piece_work;
 mod pieces;
 mod present;
 mod probing;
 mod read_fault;
 mod readable;
+mod readable_unit;
 mod readable_work;
 mod roots;
 mod seen;

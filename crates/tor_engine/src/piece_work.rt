@@ -107,13 +107,22 @@ impl<'a, S: FileBytes> UnitWork for PieceWork<'a, S> {
         unit: &PlanUnit,
         worker: &mut OwingSums,
     ) -> Result<UnitPieces, EngineError<S::Fault>> {
-        match find_pieces_of(self.alloc, self.source, self.plan, self.known, unit, worker) {
-            Ok(found) => Ok(UnitPieces {
-                unit: number,
-                pieces: FoundRow::of(found),
-            }),
-            Err(error) => Err(error),
-        }
+        let found = match find_pieces_of(
+            self.alloc,
+            self.source,
+            self.plan,
+            self.known,
+            unit,
+            worker,
+        ) {
+            Ok(found) => found,
+            Err(error) => return Err(error),
+        };
+        let pieces = FoundRow::of(self.alloc, found)?;
+        Ok(UnitPieces {
+            unit: number,
+            pieces,
+        })
     }
 
     fn complete(&self, worker: OwingSums, sums: &mut Vec<UnitPieces>) {

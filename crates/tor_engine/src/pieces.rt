@@ -1,6 +1,6 @@
 //! The pieces of a plan hashed, of files that may be cut short or missing, and the lengths of these files.
-ghost use Rattle.std.specs.Prelude.{◌≡◌, ◌^◌, ◌≤◌, ℕ, All, List, None, Option, IfErr, IfOk, IsSome, MatchResult, OnOk, length};
-ghost use Rattle.std.specs.Prelude.{nat_le};
+ghost use Rattle.std.specs.Prelude.{◌≡◌, ◌^◌, ◌≤◌, ℕ, All, List, None, Option, IfErr, IfOk, IsSome, MatchResult};
+ghost use Rattle.std.specs.Prelude.{OnOk, length, nat_le};
 ghost use Rattle.std.specs.List.{list_any};
 ghost use Rattle.tor_source.specs.Source.{SourceFacts};
 ghost use Rattle.tor_sums.specs.Contents.{contents_in};
@@ -8,9 +8,9 @@ ghost use Rattle.tor_sums.specs.Fault.{IsFault};
 ghost use Rattle.tor_sums.specs.Given.{HasTold, IsGivenPieces};
 ghost use Rattle.tor_sums.specs.How.{IsHow};
 ghost use Rattle.tor_engine.specs.PieceFault.{first_asked_fault, first_piece_fault, lengths_told};
-ghost use Rattle.tor_engine.specs.PieceFault.{units_piece_fault};
-ghost use Rattle.tor_engine.specs.PieceHashes.{hashes_of_units, piece_hashes, pieces_of_plan, pieces_of_units};
-ghost use Rattle.tor_engine.specs.Rows.{units_between};
+ghost use Rattle.tor_engine.specs.PieceFault.{some_pieces_fault, units_piece_fault};
+ghost use Rattle.tor_engine.specs.PieceHashes.{hashes_of_pieces, hashes_of_units, piece_hashes, pieces_between};
+ghost use Rattle.tor_engine.specs.PieceHashes.{pieces_of_plan, pieces_of_units};
 ghost use Rattle.tor_engine.specs.There.{HasHashesWithin, HaveHashesOf};
 ghost use Rattle.tor_plan.specs.PlanFacts.{IsPlan};
 ghost use Rattle.tor_sums.specs.steps.Given.{IsGivenKnown};
@@ -18,9 +18,9 @@ ghost use Rattle.tor_engine.specs.steps.Pieces.{IsPaddingSum, IsUnitToHash, MayH
 ghost use Rattle.tor_engine.specs.steps.Pieces.{has_long_zeros};
 
 use crate::asked::{ask_each, expect_each};
-use crate::lot::units_between;
 use crate::piece_hash::PieceHash;
 use crate::piece_hashes::PieceHashes;
+use crate::piece_run::units_of_pieces;
 use crate::piece_work::{Known, PieceWork};
 use crate::units::hash_units;
 use std::alloc::{AllocError, Global};
@@ -34,7 +34,7 @@ use tor_v1::laws::length_of_sums;
 /// What pieces hash to, and the lengths by which they were there.
 #[derive(Drop)]
 pub struct FoundPieces {
-    /// What each piece of the plan hashes to, in their order, and none if some byte of it is not there.
+    /// What each of the pieces hashes to, in their order, and none if some byte of it is not there.
     pub hashes: PieceHashes,
     /// The length in bytes of each file of the plan, in their order, and none of one that is missing.
     pub lengths: Vec<Option<u64>>,
@@ -110,8 +110,8 @@ pub fn find_pieces<S: Source, R: Threads + Sync>(
     }
 }
 
-/// What the pieces hash to of the units from the number `from` on, and before the number `to`, as [`find_pieces`] tells
-/// of all: the length of each file of the plan is asked, and no byte of any other unit is read.
+/// What the pieces hash to from the number `from` on, and before the number `to`, as far as the plan has them, as
+/// [`find_pieces`] tells of all: the length of each file of the plan is asked, and no byte of any other piece is read.
 pub fn find_pieces_between<S: Source, R: Threads + Sync>(
     rt: &R,
     alloc: Global,
@@ -123,17 +123,16 @@ pub fn find_pieces_between<S: Source, R: Threads + Sync>(
 ) -> Result<FoundPieces, EngineError<S::Fault>>
     requires how { IsHow how }
     requires ordered { from ≤ to }
-    requires within { to ≤ length plan.now.units }
     ensures hashed { (facts : SourceFacts S.Fault) → S.is_steady source.now facts →
         MatchResult result
-        (λ found. (found.hashes ≡ hashes_of_units plan.now (contents_in facts (length plan.now.lengths))
-        (units_between from to plan.now.units))
+        (λ found. (found.hashes ≡ hashes_of_pieces plan.now (contents_in facts (length plan.now.lengths))
+        (pieces_between plan.now from to))
         × (found.lengths.items ≡ lengths_told facts (length plan.now.lengths))
-        × (units_piece_fault facts plan.now (units_between from to plan.now.units) ≡ None))
-        (IsFault (units_piece_fault facts plan.now (units_between from to plan.now.units))) }
+        × (some_pieces_fault facts plan.now (pieces_between plan.now from to) ≡ None))
+        (IsFault (some_pieces_fault facts plan.now (pieces_between plan.now from to))) }
     ensures told { IfOk result (λ found. HasTold (S.answers source.now) found.lengths.items) }
-    ensures there { IfOk result (λ found. HaveHashesOf found.lengths.items
-        (pieces_of_units plan.now.piece_length (units_between from to plan.now.units)) found.hashes) }
+    ensures there { IfOk result (λ found.
+        HaveHashesOf found.lengths.items (pieces_between plan.now from to) found.hashes) }
     ensures counted { IfOk result (λ found. length found.lengths.items ≡ length plan.now.lengths) }
     ensures gave { IfErr result (IsGivenPieces (S.answers source.now) (length plan.now.lengths)) }
 {
@@ -146,13 +145,21 @@ pub fn find_pieces_between<S: Source, R: Threads + Sync>(
         lengths,
         padding_sum,
     };
-    let units = units_between(plan.units(), from, to);
-    match hash_known(rt, alloc, source, plan, units, &known, how) {
+    let units = units_of_pieces(alloc, plan, from, to, keeps_busy(to - from, how))?;
+    match hash_known(rt, alloc, source, plan, &units, &known, how) {
         Ok(hashes) => Ok(FoundPieces {
             hashes,
             lengths: known.lengths,
         }),
         Err(error) => Err(error),
+    }
+}
+
+/// Whether each worker gets four units and more, if so many pieces are joined to units of 16.
+fn keeps_busy(count: usize, how: How) -> bool {
+    match how {
+        How::One => true,
+        How::Halves(workers) | How::Board(workers) => count / 64 >= workers as usize,
     }
 }
 

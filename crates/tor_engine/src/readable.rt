@@ -13,13 +13,15 @@ ghost use Rattle.tor_engine.specs.Readable.{readable_hashes, seen_lengths};
 ghost use Rattle.tor_engine.specs.There.{HasHashesWithin};
 ghost use Rattle.tor_engine.specs.steps.Pieces.{IsPaddingSum};
 ghost use Rattle.tor_engine.specs.steps.Readable.{FindsReadable, seen_may_be, seen_steady, unit_hashes_in};
+ghost use Rattle.tor_engine.specs.steps.ReadableUnit.{faults_found};
 
 use crate::asking::{ask_readable, expect_readable};
 use crate::piece_hashes::PieceHashes;
 use crate::piece_work::Known;
 use crate::pieces::padding_sum;
 use crate::read_fault::ReadFault;
-use crate::readable_work::{ReadableUnit, ReadableWork};
+use crate::readable_unit::ReadableUnit;
+use crate::readable_work::ReadableWork;
 use crate::seen::Seen;
 use crate::units::hash_units;
 use std::alloc::{AllocError, Global};
@@ -148,13 +150,14 @@ fn join_units<F: Drop>(
     units: Vec<ReadableUnit<F>>,
 ) -> Result<(PieceHashes, Vec<ReadFault<F>>), AllocError>
     ensures hashes { IfOk result (λ joined. joined.0 ≡ flat_map unit_hashes_in units.items) }
-    ensures faults { IfOk result (λ joined. joined.1.items ≡ flat_map (λ one. one.faults.items) units.items) }
+    ensures faults { IfOk result (λ joined. joined.1.items ≡ flat_map faults_found units.items) }
 {
     let mut found = Vec::with_capacity(alloc, units.len())?;
     let mut faults = Vec::new(alloc);
     'units: for unit in units {
-        found.push(unit.found)?;
-        append(&mut faults, unit.faults)?;
+        let (own, failed) = unit.into_parts(alloc);
+        found.push(own)?;
+        append(&mut faults, failed)?;
     }
     Ok((PieceHashes::of(found), faults))
 }

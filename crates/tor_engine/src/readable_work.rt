@@ -11,6 +11,7 @@ ghost use Rattle.tor_sums.specs.steps.Owing.{Owes};
 ghost use Rattle.tor_engine.specs.Readable.{IsNoReadFault};
 ghost use Rattle.tor_engine.specs.steps.Pieces.{AreTold, IsPaddingSum, IsPiece, IsUnitToHash, hashes_in};
 ghost use Rattle.tor_engine.specs.steps.Readable.{FindsReadable, FindsUnit};
+ghost use Rattle.tor_engine.specs.steps.ReadableUnit.{unit_found};
 
 use crate::alone::{find_alone, find_unit};
 use crate::found_row::FoundRow;
@@ -18,18 +19,12 @@ use crate::piece_hash::FoundPiece;
 use crate::piece_work::{Known, UnitPieces};
 use crate::probing::faults_of;
 use crate::read_fault::{ReadFault, as_read_fault};
+use crate::readable_unit::{FaultyUnit, ReadableUnit};
 use crate::unit_work::UnitWork;
 use std::alloc::{AllocError, Global};
 use tor_merkle::Hash;
 use tor_plan::{Plan, PlanUnit};
 use tor_sums::{EngineError, FileBytes, OwingSums, append};
-
-/// What is known of the pieces of a unit, and what of them could not be read.
-#[derive(Drop)]
-pub(crate) struct ReadableUnit<F> {
-    pub(crate) found: UnitPieces,
-    pub(crate) faults: Vec<ReadFault<F>>,
-}
 
 /// Hashes the pieces of units as far as they can be read. Each unit gets its SHA-1s at its end, and after a fault of
 /// one its pieces are read again, each by itself: then none of another is lost with the worker that stopped.
@@ -64,7 +59,7 @@ impl<'a, S: FileBytes> UnitWork for ReadableWork<'a, S> {
         (IsGivenRead (S.answers work.source.now) (lengths_of_sizes work.known.now.lengths.items)) work.plan.now
         work.known.now.lengths.items) units sums };
 
-    ghost number_in = { λ _ sums. sums.found.unit };
+    ghost number_in = { λ _ sums. (unit_found sums).unit };
 
     ghost hash_in = { λ _ _. replicate 32 0 };
 
@@ -96,10 +91,7 @@ impl<'a, S: FileBytes> UnitWork for ReadableWork<'a, S> {
             unit,
             worker,
         ) {
-            Ok(found) => {
-                let faults = Vec::new(self.alloc);
-                return Ok(ReadableUnit { found, faults });
-            }
+            Ok(found) => return Ok(ReadableUnit::Clean(found)),
             Err(error) => error,
         };
         match as_read_fault(error) {
@@ -122,7 +114,7 @@ impl<'a, S: FileBytes> UnitWork for ReadableWork<'a, S> {
     fn complete(&self, _worker: OwingSums, _sums: &mut Vec<ReadableUnit<S::Fault>>) {}
 
     fn number_of(&self, sums: &ReadableUnit<S::Fault>) -> u64 {
-        sums.found.unit
+        sums.number()
     }
 
     // It goes into no tree: `find_readable` has none put together.
@@ -146,7 +138,7 @@ fn find_each<S: FileBytes>(
     requires unit { IsUnitToHash plan.now unit.now }
     requires owing { Owes plan.now [] worker.old }
     ensures owing { OnOk result (Owes plan.now [] worker.new) }
-    ensures number { IfOk result (λ one. one.found.unit ≡ number) }
+    ensures number { IfOk result (λ one. (unit_found one).unit ≡ number) }
     ensures found { IfOk result (FindsUnit (S.is_steady source.now)
         (IsGivenRead (S.answers source.now) (lengths_of_sizes known.now.lengths.items)) plan.now
         known.now.lengths.items unit.now) }
@@ -167,13 +159,13 @@ fn find_each<S: FileBytes>(
         found.push(one)?;
         append(&mut faults, own)?;
     }
-    Ok(ReadableUnit {
-        found: UnitPieces {
-            unit: number,
-            pieces: FoundRow::of(found),
-        },
-        faults,
-    })
+    let row = FoundRow::of(alloc, found)?;
+    let found = UnitPieces {
+        unit: number,
+        pieces: row,
+    };
+    let unit = Box::new(alloc, FaultyUnit { found, faults })?;
+    Ok(ReadableUnit::Faulty(unit))
 }
 
 /// What is found of a piece, and what of it could not be read: of one that has several parts the first fault of each,

@@ -1,4 +1,5 @@
 pub mod Names
+pub mod OwnSpans
 pub mod Packed
 pub mod Grown
 pub mod ReadBack

@@ -1,5 +1,5 @@
 -- The padding behind the last filled file of a v1 side, where it is as it is to be.
-use Rattle.tor_recheck.proofs.Names.{◌≡◌, ℕ, ◌+◌, ◌-◌, eqb, Bool, true, false, not, ◌||◌, List, [], ◌∷◌, ◌++◌}
+use Rattle.tor_recheck.proofs.Names.{◌≡◌, ℕ, ◌+◌, eqb, Bool, true, false, not, ◌||◌, List, [], ◌∷◌, ◌++◌}
 use Rattle.tor_recheck.proofs.Names.{Option, None, Some, arith, refl, ap, ◌∙◌, sym, inl, inr, ◌⊎◌, reverse}
 use Rattle.tor_recheck.proofs.Names.{append_assoc, unwrap_or, find, option_map, cond-false}
 use Rattle.tor_recheck.proofs.Names.{cond-true, eqb-true, not-false, or_parts, reverse-append, IsPermutation-reverse}

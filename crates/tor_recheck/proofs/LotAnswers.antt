@@ -13,14 +13,12 @@ use Rattle.tor_recheck.proofs.Names.{PlanUnit, filter, length-drop, length-take,
 use Rattle.tor_recheck.proofs.Names.{first_asked_fault, pieces_fault, IsFault, EngineError, is_some}
 use Rattle.tor_recheck.proofs.DealtLots.{lots_rise}
 use Rattle.tor_recheck.proofs.LotFound.{bits_of_lot, faults_same, hashes_same, units_counted}
-use Rattle.tor_recheck.proofs.LotPieces.{own_pieces}
 use Rattle.tor_recheck.proofs.ProvedLaws.{pieces_are_counted}
-use Rattle.tor_recheck.proofs.Rechecked.{count_is, count_of_judged}
+use Rattle.tor_recheck.proofs.Rechecked.{count_is, count_of_judged, pieces_are}
 use Rattle.tor_recheck.specs.Lots.{IsFileOfLot, first_lot_fault, first_of_lot, in_lot, lot_byte}
 use Rattle.tor_recheck.specs.steps.Lots.{is_own, own_facts}
-use Rattle.tor_engine.specs.PieceFault.{units_piece_fault}
-use Rattle.tor_engine.specs.PieceHashes.{hashes_of_units, pieces_of_units}
-use Rattle.tor_engine.specs.Rows.{units_between}
+use Rattle.tor_engine.specs.PieceFault.{some_pieces_fault}
+use Rattle.tor_engine.specs.PieceHashes.{hashes_of_pieces, pieces_between}
 use Rattle.tor_sums.specs.Fault as engine
 
 in_lot_is : {X : Type 0} (xs : List X) (lots lot m from to : ℕ) → length xs ≡ m → from ≡ first_of_lot m lots lot
@@ -30,26 +28,28 @@ in_lot_is xs lots lot m from to count begins ends =
     (ends ∙ ap (λ n. first_of_lot n lots (lot + 1)) (sym count))
 
 module _ (view : View) (cut : IsCut view) (plan : PlanFacts)
-    (planned : plan ≡ plan_of_entries view.kind view.piece_length 1 (entries_to_cut view)) (lots lot from to : ℕ)
-    (begins : from ≡ first_of_lot (length plan.units) lots lot)
-    (ends : to ≡ first_of_lot (length plan.units) lots (lot + 1)) where
+    (planned : plan ≡ plan_of_entries view.kind view.piece_length 16 (entries_to_cut view)) (lots lot from to : ℕ)
+    (begins : from ≡ first_of_lot view.piece_count lots lot)
+    (ends : to ≡ first_of_lot view.piece_count lots (lot + 1)) where
   abbrev m : ℕ
   m = length (pieces_of view)
 
-  abbrev alone : PlanFacts
-  alone = plan_of_entries view.kind view.piece_length 1 (entries_to_cut view)
+  abbrev cut_plan : PlanFacts
+  cut_plan = plan_of_entries view.kind view.piece_length 16 (entries_to_cut view)
 
   abbrev own_units : List PlanUnit
   own_units = take (to - from) (drop from (pieces_of view))
 
-  units_are : length plan.units ≡ m
-  units_are = ap (λ (p : PlanFacts). length p.units) planned
+  own_pieces : pieces_between plan from to ≡ own_units
+  own_pieces =
+      ap (λ (p : PlanFacts). pieces_between p from to) planned
+      ∙ ap (λ (pieces : List PlanUnit). take (to - from) (drop from pieces)) (pieces_are view [] cut)
 
   from_is : from ≡ first_of_lot m lots lot
-  from_is = begins ∙ ap (λ n. first_of_lot n lots lot) units_are
+  from_is = begins ∙ ap (λ n. first_of_lot n lots lot) (sym (pieces_are_counted view cut))
 
   to_is : to ≡ first_of_lot m lots (lot + 1)
-  to_is = ends ∙ ap (λ n. first_of_lot n lots (lot + 1)) units_are
+  to_is = ends ∙ ap (λ n. first_of_lot n lots (lot + 1)) (sym (pieces_are_counted view cut))
 
   pub ordered : from ≤ to
   ordered = let rise = lots_rise m lots lot in omega (arith, rise, from_is, to_is)
@@ -61,14 +61,12 @@ module _ (view : View) (cut : IsCut view) (plan : PlanFacts)
 
   -- one hash for each of its pieces
   pub hashes_counted : (told : List (Option ℕ)) (hashes : List (Option PieceHash))
-      → HaveHashesOf told (pieces_of_units plan.piece_length (units_between from to plan.units)) hashes
-      → length hashes ≡ to - from
+      → HaveHashesOf told (pieces_between plan from to) hashes → length hashes ≡ to - from
   hashes_counted told hashes there =
       sym (length-map hashes is_some)
       ∙ ap length there
-      ∙ length-map (pieces_of_units plan.piece_length (units_between from to plan.units)) (is_within told)
-      ∙ ap (λ (p : PlanFacts). length (pieces_of_units p.piece_length (units_between from to p.units))) planned
-      ∙ ap length (own_pieces view cut from (to - from))
+      ∙ length-map (pieces_between plan from to) (is_within told)
+      ∙ ap length own_pieces
       ∙ units_counted view cut from (to - from) within
 
   pub judged_counted : (full hashes : List (Option PieceHash)) → full ≡ replicate from None ++ hashes
@@ -91,30 +89,21 @@ module _ (view : View) (cut : IsCut view) (plan : PlanFacts)
       (from_is ∙ ap (λ n. first_of_lot n lots lot) (pieces_are_counted view cut))
 
   module _ (own : List Bool)
-      (own_is : own ≡ map (λ file. list_any (has_bytes_of file) (take (to - from) (drop from plan.units)))
-      (range_with_len 0 (length plan.lengths))) where
-    own_files : own ≡ map (λ file. list_any (has_bytes_of file) own_units) (range_with_len 0 (length view.files))
-    own_files =
-        own_is
-        ∙ ap (λ (p : PlanFacts). map (λ file. list_any (has_bytes_of file) (take (to - from) (drop from p.units)))
-        (range_with_len 0 (length p.lengths))) planned
-        ∙ ap (λ n. map (λ file. list_any (has_bytes_of file) own_units) (range_with_len 0 n)) (count_is view [] cut)
-
+      (own_is : own ≡ map (λ file. list_any (has_bytes_of file) own_units) (range_with_len 0 (length view.files))) where
     -- a file that is asked has bytes in the lot
     pub named_in_lot : (file : ℕ) → file < length view.files → is_own own file ≡ true → IsFileOfLot view lots lot file
     named_in_lot file less is =
         ap (list_any (has_bytes_of file)) (sym (in_lot_is (pieces_of view) lots lot m from to refl from_is to_is))
-        ∙ sym (ap (λ (files : List Bool). get_or files file false) own_files
+        ∙ sym (ap (λ (files : List Bool). get_or files file false) own_is
         ∙ get_or-map-range_with_len (λ file. list_any (has_bytes_of file) own_units) 0 (length view.files) file file
         false less (zero-add file))
         ∙ is
 
   module _ {F : Type 0} (facts : SourceFacts F) (own : List Bool)
-      (own_is : own ≡ map (λ file. list_any (has_bytes_of file) (take (to - from) (drop from plan.units)))
-      (range_with_len 0 (length plan.lengths))) where
+      (own_is : own ≡ map (λ file. list_any (has_bytes_of file) own_units) (range_with_len 0 (length view.files))) where
     pub bits_found : (full hashes : List (Option PieceHash)) → full ≡ replicate from None ++ hashes
-        → hashes ≡ hashes_of_units plan (contents_in (own_facts own facts) (length plan.lengths))
-        (units_between from to plan.units)
+        → hashes ≡ hashes_of_pieces plan (contents_in (own_facts own facts) (length plan.lengths))
+        (pieces_between plan from to)
         → take (to - from) (drop from (all_judged view full))
         ≡ in_lot lots lot (verified_pieces view (contents_in facts (length view.files)))
     bits_found full hashes is are =
@@ -128,33 +117,32 @@ module _ (view : View) (cut : IsCut view) (plan : PlanFacts)
         count = length-map-range_with_len (is_verified view contents) 0 view.piece_count
             ∙ sym (pieces_are_counted view cut)
 
-        each : hashes ≡ map (hash_if_there alone contents) own_units
+        each : hashes ≡ map (hash_if_there cut_plan contents) own_units
         each =
             are
-            ∙ ap (λ (p : PlanFacts). hashes_of_units p (contents_in (own_facts own facts) (length p.lengths))
-            (units_between from to p.units)) planned
-            ∙ ap (λ n. hashes_of_units alone (contents_in (own_facts own facts) n) own_units) (count_is view [] cut)
-            ∙ ap (map (hash_if_there alone (contents_in (own_facts own facts) (length view.files))))
-            (own_pieces view cut from (to - from))
-            ∙ hashes_same view cut from (to - from) within facts own (own_files own own_is)
+            ∙ ap (λ (p : PlanFacts). hashes_of_pieces p (contents_in (own_facts own facts) (length p.lengths))
+            (pieces_between plan from to)) planned
+            ∙ ap₂ (λ n pieces. hashes_of_pieces cut_plan (contents_in (own_facts own facts) n) pieces)
+            (count_is view [] cut) own_pieces
+            ∙ hashes_same view cut from (to - from) within facts own own_is
 
-    pub fault_is : option_map of_engine_error (units_piece_fault (own_facts own facts) plan
-        (units_between from to plan.units))
+    pub fault_is : option_map of_engine_error (some_pieces_fault (own_facts own facts) plan
+        (pieces_between plan from to))
         ≡ first_lot_fault facts view lots lot
     fault_is =
-        ap (λ (p : PlanFacts). option_map of_engine_error (units_piece_fault (own_facts own facts) p
-        (units_between from to p.units))) planned
+        ap (λ (p : PlanFacts). option_map of_engine_error (some_pieces_fault (own_facts own facts) p
+        (pieces_between plan from to))) planned
         ∙ ap₂ (λ n units. option_map of_engine_error (option_or (first_asked_fault (own_facts own facts) n)
         (pieces_fault (own_facts own facts) (contents_in (own_facts own facts) n) units))) (count_is view [] cut)
-        (own_pieces view cut from (to - from))
-        ∙ ap (option_map of_engine_error) (faults_same view cut from (to - from) within facts own (own_files own own_is))
+        own_pieces
+        ∙ ap (option_map of_engine_error) (faults_same view cut from (to - from) within facts own own_is)
         ∙ ap (λ units. option_map of_engine_error (option_or (first_of (asked_fault facts)
         (filter (λ file. list_any (has_bytes_of file) units) (range_with_len 0 (length view.files))))
         (pieces_fault facts (contents_in facts (length view.files)) units)))
         (in_lot_is (pieces_of view) lots lot m from to refl from_is to_is)
 
     pub same_fault : (error : EngineError F)
-        → engine.IsFault (units_piece_fault (own_facts own facts) plan (units_between from to plan.units)) error
+        → engine.IsFault (some_pieces_fault (own_facts own facts) plan (pieces_between plan from to)) error
         → IsFault (first_lot_fault facts view lots lot) (of_engine_error error)
     same_fault error (inl memory) = inl (ap of_engine_error memory)
     same_fault error (inr first) = inr (sym fault_is ∙ ap (option_map of_engine_error) first)

@@ -5,7 +5,7 @@ use Rattle.tor_recheck.proofs.Names.{cond-false, cond-true, drop_more, length-ma
 use Rattle.tor_recheck.proofs.Names.{sum_by-cons, entries_length, lengths_of_entries}
 use Rattle.tor_recheck.proofs.Names.{entries_to_cut, IsCut, FileSpan, file_spans, joined_spans, tree_spans}
 use Rattle.tor_recheck.proofs.Names.{span_of_entry, pieces_in, FileView, View, has_v1, has_v2, MAX_TOTAL, Entry, suc}
-use Rattle.tor_recheck.proofs.Names.{entry_cases, file, files_within, ceil_few}
+use Rattle.tor_recheck.proofs.Names.{entry_cases, files_within, ceil_few}
 use Rattle.tor_recheck.proofs.MerklePieces.{length_of}
 use Rattle.tor_recheck.proofs.PieceSides.{other_side, same_lengths, some_piece}
 

@@ -1,5 +1,5 @@
 -- Which bytes of a file are in pieces whose bits are not set.
-use Rattle.std.specs.Prelude.{◌≡◌, ℕ, ◌+◌, ◌/◌, ◌<◌, ◌==◌, Bool, false, not, ◌&&◌, List, leb, map, nat_lt, slice_index_or}
+use Rattle.std.specs.Prelude.{◌≡◌, ℕ, ◌+◌, ◌/◌, ◌<◌, ◌==◌, Bool, false, not, ◌&&◌, List, leb, map, max, min, nat_lt, slice_index_or}
 use Rattle.std.specs.List.{All, AllPairs, list_any}
 use Rattle.tor_plan.specs.declared.units.PlanUnit.{PlanUnit}
 use Rattle.tor_recheck.specs.Files.{file_spans}
@@ -24,8 +24,7 @@ piece_of_byte file b = file.span.first + (file.span.lead + b) / file.piece_lengt
 
 -- one of the pieces from one on, and before another, has bytes of a file
 abbrev pub has_piece_between : ℕ → ℕ → PiecedFile → Bool
-has_piece_between from to file = nat_lt from file.span.after && nat_lt file.span.first to
-    && nat_lt file.span.first file.span.after
+has_piece_between from to file = nat_lt (max from file.span.first) (min to file.span.after)
 
 -- byte b is one of the file, and lies in a piece whose bit is not set. A piece without a bit has none that is (profile)
 abbrev pub is_bad_byte : PiecedFile → List Bool → ℕ → Bool

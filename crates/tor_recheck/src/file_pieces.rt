@@ -79,7 +79,7 @@ impl FilePieces {
     pub fn has_piece_between(&self, from: u64, to: u64) -> bool
         ensures { result ≡ has_piece_between from to self.now }
     {
-        from < self.span.after && self.span.first < to && self.span.first < self.span.after
+        from.max(self.span.first) < to.min(self.span.after)
     }
 
     /// Its bytes that are in pieces whose bits are not set, as ranges that rise and do not touch. It takes time as the

@@ -1,12 +1,14 @@
 //! A source of which some files alone are asked and read.
-ghost use Rattle.std.specs.Prelude.{◌≡◌, ◌&&◌, ◌||◌, ℕ, ◌<◌, ◌==◌, IfOk, false, length, map, slice_index_or};
+ghost use Rattle.std.specs.Prelude.{◌≡◌, ◌-◌, ◌≤◌, IfOk, drop, length, map, take};
 ghost use Rattle.std.specs.List.{list_any, range_with_len};
 ghost use Rattle.tor_recheck.specs.Files.{has_bytes_of};
+ghost use Rattle.tor_recheck.specs.Pieces.{IsCut, pieces_of};
 ghost use Rattle.tor_recheck.specs.steps.Lots.{is_own, own_answers, own_facts};
 ghost use Rattle.tor_source.specs.Source.{SourceFacts};
 
+use crate::file_pieces::files_in_pieces;
 use std::alloc::{AllocError, Global};
-use tor_plan::{Part, PlanUnit};
+use tor_check::Torrent;
 use tor_source::Source;
 
 /// A source of which those files alone are asked that are its own; each other one is missing.
@@ -51,30 +53,24 @@ fn is_own(own: &[bool], file: u64) -> bool
     }
 }
 
-/// For each of so many files whether units have bytes of it.
+/// For each file of the torrent whether the pieces from one number on, and before another, have bytes of it.
 pub(crate) fn own_files(
     alloc: Global,
-    count: usize,
-    units: &[PlanUnit],
+    torrent: &Torrent,
+    from: usize,
+    to: usize,
 ) -> Result<Vec<bool>, AllocError>
+    requires cut { IsCut torrent.now }
+    requires ordered { from ≤ to }
+    requires within { to ≤ torrent.now.piece_count }
     ensures { IfOk result (λ own. own.items
-        ≡ map (λ file. list_any (has_bytes_of file) units.now) (range_with_len 0 count)) }
+        ≡ map (λ file. list_any (has_bytes_of file) (take (to - from) (drop from (pieces_of torrent.now))))
+        (range_with_len 0 (length torrent.now.files))) }
 {
-    let mut own = vec![in alloc; false; count]?;
-    'units: for unit in units {
-        mark(unit.parts.as_slice(), &mut own);
+    let files = files_in_pieces(alloc, torrent)?;
+    let mut own = Vec::with_capacity(alloc, files.len())?;
+    'files: for file in files.as_slice() {
+        own.push(file.has_piece_between(from as u64, to as u64))?;
     }
     Ok(own)
-}
-
-/// Marks the files of parts.
-fn mark(parts: &[Part], own: &mut [bool])
-    ensures { (file : ℕ) → file < length own.old → slice_index_or own.new file false
-        ≡ (slice_index_or own.old file false || list_any (λ part. part.file == file) parts.now) }
-{
-    'parts: for part in parts {
-        if part.file < own.len() as u64 {
-            own[part.file as usize] = true;
-        }
-    }
 }

@@ -13,12 +13,11 @@ use crate::bits::Bits;
 use crate::errors::RecheckError;
 use crate::own_files::{OwnFiles, own_files};
 use crate::piece_bits::verified_bits;
-use crate::rechecking::plan_of;
+use crate::rechecking::{SPAN, plan_of};
 use std::alloc::{AllocError, Global};
 use std::thread::Threads;
 use tor_check::Torrent;
 use tor_engine::{How, PieceHashes, find_pieces_between};
-use tor_plan::PlanUnit;
 use tor_source::Source;
 
 /// Which of the pieces of one of so many lots are there and right, as [`recheck`](crate::recheck) tells of all. The
@@ -51,11 +50,11 @@ pub fn recheck_lot<S: Source, R: Threads + Sync>(
     if !how.is_allowed() {
         return Err(RecheckError::Workers);
     }
-    let plan = plan_of(alloc, torrent, 1)?;
-    let units = plan.units();
-    let from = first_of_lot(units.len(), lots, u64::from(lot));
-    let to = first_of_lot(units.len(), lots, u64::from(lot) + 1);
-    let own = own_files(alloc, plan.lengths().len(), between(units, from, to))?;
+    let plan = plan_of(alloc, torrent, SPAN)?;
+    let count = torrent.piece_count() as usize;
+    let from = first_of_lot(count, lots, u64::from(lot));
+    let to = first_of_lot(count, lots, u64::from(lot) + 1);
+    let own = own_files(alloc, torrent, from, to)?;
     let some = OwnFiles { source, own: &own };
     let found = match find_pieces_between(rt, alloc, &some, &plan, from, to, how) {
         Ok(found) => found,
@@ -103,17 +102,6 @@ fn lot_byte(bytes: u128, lots: u128, lot: u128) -> u128
     ensures bound { result ≤ bytes }
 {
     lot * (bytes / lots) + lot.min(bytes % lots)
-}
-
-/// The units from one number on, and before another.
-fn between(units: &[PlanUnit], from: usize, to: usize) -> &[PlanUnit]
-    requires ordered { from ≤ to }
-    requires within { to ≤ length units.now }
-    ensures { result.now ≡ take (to - from) (drop from units.now) }
-{
-    let (_, later) = units.split_at(from);
-    let (own, _) = later.split_at(to - from);
-    own
 }
 
 /// The bits from one piece on, and before another.

@@ -12,4 +12,4 @@ is_missing _ = false
 -- one after another
 abbrev pub found_in : Row → List FoundPiece
 found_in (AllMissing count) = replicate count Missing
-found_in (Each found) = found.items
+found_in (Each found) = found.value.items

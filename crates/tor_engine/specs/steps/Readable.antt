@@ -17,8 +17,9 @@ use Rattle.tor_engine.specs.Readable.{HasHashWithin, error_of_fault, hash_if_rea
 use Rattle.tor_engine.specs.There.{HaveHashesOf}
 use Rattle.tor_engine.specs.declared.piece_hash.PieceHash.{PieceHash}
 use Rattle.tor_engine.specs.declared.read_fault.ReadFault.{ReadFault}
-use Rattle.tor_engine.specs.declared.readable_work.ReadableUnit.{ReadableUnit}
+use Rattle.tor_engine.specs.declared.readable_unit.ReadableUnit.{ReadableUnit}
 use Rattle.tor_engine.specs.steps.Pieces.{AreTold, hashes_in}
+use Rattle.tor_engine.specs.steps.ReadableUnit.{faults_found, unit_found}
 
 -- a source as it is seen where these lengths were told: the other files are missing
 abbrev pub seen_by : {F : Type 0} → List (Option ℕ) → SourceFacts F → SourceFacts F
@@ -70,11 +71,11 @@ abbrev pub FindsUnit : {F : Type 0} → (SourceFacts F → Type 0) → (EngineEr
     → List (Option ℕ) → PlanUnit → ReadableUnit F → Type 0
 FindsUnit is_steady may_be plan told unit one =
     FindsReadable is_steady may_be plan told (pieces_of_unit plan.piece_length unit)
-    (map hashes_in one.found.pieces) one.faults.items
+    (map hashes_in (unit_found one).pieces) (faults_found one)
 
 -- the hashes of the pieces of a unit
 abbrev pub unit_hashes_in : {F : Type 0} → ReadableUnit F → List (Option PieceHash)
-unit_hashes_in one = map hashes_in one.found.pieces
+unit_hashes_in one = map hashes_in (unit_found one).pieces
 
 -- a file of which a length was told is changed: another was told
 abbrev pub IsLeft : {F : Type 0} → Answers F → List (Option ℕ) → EngineError F → Type 0

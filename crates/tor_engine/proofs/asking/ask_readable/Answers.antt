@@ -9,7 +9,7 @@ use Rattle.tor_sums.proofs.PartReads.{all_append}
 use Rattle.tor_engine.specs.PieceFault.{asked_fault}
 use Rattle.tor_engine.specs.Readable.{IsSeenLength, error_of_fault, read_faults}
 use Rattle.tor_engine.specs.steps.Readable.{listed}
-use Rattle.tor_engine.proofs.FoundReadable.{flat_range, nil_both}
+use Rattle.tor_engine.proofs.ReadFaults.{flat_range, nil_both}
 use Rattle.tor_engine.proofs.GivenAnswers.{each_more}
 use Rattle.tor_engine.proofs.SeenLengths.{lengths_more}
 use Rattle.tor_engine.proofs.asking.ask_readable.Goals as goal

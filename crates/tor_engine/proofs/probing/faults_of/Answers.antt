@@ -6,7 +6,7 @@ use Rattle.std.specs.List.{All}
 use Rattle.std.proofs.lemmas.Bool.{eqb-true}
 use Rattle.tor_sums.specs.Fault.{first_of, part_fault}
 use Rattle.tor_sums.specs.steps.Reads.{HasParts}
-use Rattle.tor_engine.proofs.FoundReadable.{none_held, none_listed, one_part}
+use Rattle.tor_engine.proofs.ReadFaults.{none_held, none_listed, one_part}
 use Rattle.tor_engine.proofs.probing.faults_of.Goals as goal
 
 pub returns-then-parts-le1-clause-failed : goal.returns-then-parts-le1-clause-failed

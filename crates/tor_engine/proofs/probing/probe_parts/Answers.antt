@@ -8,7 +8,7 @@ use Rattle.tor_sums.proofs.PartReads.{all_append}
 use Rattle.tor_sums.proofs.Parts.{one_there}
 use Rattle.tor_engine.specs.Readable.{error_of_fault, read_faults}
 use Rattle.tor_engine.specs.steps.Readable.{listed}
-use Rattle.tor_engine.proofs.FoundReadable.{flat_more}
+use Rattle.tor_engine.proofs.ReadFaults.{flat_more}
 use Rattle.tor_engine.proofs.probing.probe_parts.Goals as goal
 
 pub parts-preserved : goal.parts-preserved

@@ -12,7 +12,7 @@ use Rattle.tor_engine.specs.Readable.{seen_lengths}
 use Rattle.tor_engine.specs.declared.read_fault.ReadFault.{ReadFault}
 use Rattle.tor_engine.specs.steps.Readable.{IsLeft, seen_by, seen_may_be}
 use Rattle.tor_engine.proofs.Each.{each_length}
-use Rattle.tor_engine.proofs.FoundReadable.{nil_both}
+use Rattle.tor_engine.proofs.ReadFaults.{nil_both}
 use Rattle.tor_engine.proofs.SeenLengths.{all_more, left_given, same_contents, seen_are_told, seen_given}
 use Rattle.tor_engine.proofs.readable.find_readable.Goals as goal
 

@@ -10,7 +10,7 @@ use Rattle.tor_sums.specs.steps.Given.{IsGivenRead, lengths_of_sizes}
 use Rattle.tor_engine.specs.steps.Pieces.{AreTold, IsUnitToHash}
 use Rattle.tor_engine.specs.steps.Readable.{FindsReadable, seen_answers, seen_by, seen_may_be, seen_steady}
 use Rattle.tor_engine.specs.steps.Readable.{unit_hashes_in}
-use Rattle.tor_engine.specs.declared.readable_work.ReadableUnit.{ReadableUnit}
+use Rattle.tor_engine.specs.steps.ReadableUnit.{faults_found}
 use Rattle.tor_engine.proofs.FoundReadable.{finds_as, finds_units}
 use Rattle.tor_engine.proofs.PlanPieces.{units_to_hash}
 use Rattle.tor_engine.proofs.RunRoots.{no_runs}
@@ -63,7 +63,7 @@ returns-clause-found g c =
     let by_told = subst (λ (ts : List (Option ℕ)). FindsReadable (seen_steady ts is_steady)
     (IsGivenRead (seen_answers ts answers) (lengths_of_sizes told)) plan told
     (flat_map (pieces_of_unit plan.piece_length) units) (flat_map unit_hashes_in ones)
-    (flat_map (λ (one : ReadableUnit g.row.S-Fault.Denot). one.faults.items) ones)) c.as_slice.ensures.value all in
+    (flat_map faults_found ones)) c.as_slice.ensures.value all in
     finds_as (seen_steady told is_steady) (seen_may_be told answers) plan told
     (ap (flat_map (pieces_of_unit plan.piece_length)) c.units-units.ensures.value)
     (sym c.in_ok-joined.ensures.hashes) (sym c.in_ok-joined.ensures.faults) by_told

@@ -3,6 +3,7 @@ use Rattle.std.proofs.Common.{◌++◌, [], ◌∷◌, ap, map, refl, sym, take,
 use Rattle.std.proofs.lemmas.List.{map-append, take_all, take_more}
 use Rattle.tor_plan.specs.Pieces.{pieces_of_unit}
 use Rattle.tor_sums.specs.steps.Given.{IsGivenRead, lengths_of_sizes}
+use Rattle.tor_engine.specs.declared.readable_unit.FaultyUnit.{FaultyUnit}
 use Rattle.tor_engine.specs.steps.Pieces.{hashes_in}
 use Rattle.tor_engine.proofs.FoundReadable.{finds_as, finds_both, finds_none}
 use Rattle.tor_engine.proofs.readable_work.find_each.Goals as goal
@@ -46,8 +47,10 @@ returns-clause-found g c =
     let told = c.args.known.now.lengths.items in
     let may_be = IsGivenRead (g.S.FileBytes.answers c.args.source.now) (lengths_of_sizes told) in
     let items = c.as_slice-piece-items.result.now in
+    let made = c.in_ok-unit.ensures.ok in
     finds_as is_steady may_be c.args.plan.now told
     (take_all c.pieces.piece-index items c.pieces-test.false
     ∙ c.as_slice-piece-items.ensures.value ∙ c.in_ok-pieces.ensures
     ∙ ap (λ p. pieces_of_unit p c.args.unit.now) c.piece_length.ensures)
-    (sym (ap (map hashes_in) c.of.ensures)) refl c.pieces.invariant.found
+    (sym (ap (λ (one : FaultyUnit _). map hashes_in one.found.pieces) made ∙ ap (map hashes_in) c.in_ok-row.ensures))
+    (sym (ap (λ (one : FaultyUnit _). one.faults.items) made)) c.pieces.invariant.found

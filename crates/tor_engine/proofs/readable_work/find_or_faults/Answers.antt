@@ -11,7 +11,8 @@ use Rattle.tor_engine.specs.There.{is_within}
 use Rattle.tor_engine.specs.Readable.{IsNoReadFault, error_of_fault, read_faults}
 use Rattle.tor_engine.specs.steps.Pieces.{AreTold, hashes_in}
 use Rattle.tor_engine.specs.steps.Readable.{FindsReadable}
-use Rattle.tor_engine.proofs.FoundReadable.{finds_alone, finds_lost, no_other, no_read, piece_is_read, piece_there}
+use Rattle.tor_engine.proofs.FoundReadable.{finds_alone, finds_lost}
+use Rattle.tor_engine.proofs.ReadFaults.{no_other, no_read, piece_is_read, piece_there}
 use Rattle.tor_engine.proofs.PartsInside.{source_has_unit, unit_in_told}
 use Rattle.tor_engine.proofs.readable_work.find_or_faults.Goals as goal
 

@@ -1,11 +1,29 @@
--- at the end all units
-use Rattle.tor_recheck.proofs.Names.{◌∙◌, ap, false, fill_by_all, has_bytes_of, list_any, take_all}
+-- at the end all files
+use Rattle.tor_recheck.proofs.Names.{◌∙◌, ◌++◌, ◌∷◌, [], List, ap, ap₂, map, sym, take, take_all, take_more}
+use Rattle.std.proofs.lemmas.List.{map-append}
+use Rattle.tor_recheck.proofs.OwnSpans.{own_by_spans}
+use Rattle.tor_recheck.specs.FileBytes.{PiecedFile, has_piece_between}
 use Rattle.tor_recheck.proofs.own_files.own_files.Goals as goal
+
+pub files-init : goal.files-init
+files-init c = c.in_ok-own.ensures.items
+
+pub files-preserved : goal.files-preserved
+files-preserved c =
+    let test = has_piece_between c.args.from c.args.to in
+    let items = c.as_slice-file-items.result.now in
+    let i = c.files.file-index in
+    c.in_ok-push.ensures.items
+    ∙ ap₂ (λ bits bit. bits ++ bit ∷ []) c.files.invariant (c.has_piece_between.ensures ∙ ap test c.file-item.is)
+    ∙ sym (ap (map test) (take_more items i c.file-item.result c.files-test.true)
+    ∙ map-append test (take i items) (_ ∷ []))
 
 pub returns : goal.returns
 returns c =
-    let units = c.args.units.now in
-    fill_by_all (λ file. list_any (has_bytes_of file) units) c.units.own.items c.args.count false
-    c.units.invariant.counted
-    (λ file lt. c.units.invariant.marked file lt
-    ∙ ap (list_any (has_bytes_of file)) (take_all c.units.unit-index units c.units-test.false))
+    let view = c.args.torrent.now in
+    let requires = c.requires in
+    c.files.invariant
+    ∙ ap (λ (files : List PiecedFile). map (has_piece_between c.args.from c.args.to) files)
+    (take_all c.files.file-index c.as_slice-file-items.result.now c.files-test.false
+    ∙ c.as_slice-file-items.ensures.value ∙ c.in_ok-files.ensures.files)
+    ∙ own_by_spans view requires.cut c.args.from c.args.to requires.ordered requires.within

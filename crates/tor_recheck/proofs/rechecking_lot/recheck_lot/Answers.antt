@@ -1,8 +1,7 @@
 -- those of the lot
 use Rattle.tor_recheck.proofs.Names.{◌∙◌, ◌+◌, ◌-◌, ℕ, Bool, List, ap, ap₂, arith, drop, length}
-use Rattle.tor_recheck.proofs.Names.{map}
-use Rattle.tor_recheck.proofs.Names.{has_bytes_of, list_any, ones, range_with_len, refl, subst, sym, take}
-use Rattle.tor_recheck.proofs.Names.{IsFault, PlanUnit, option_map, of_engine_error}
+use Rattle.tor_recheck.proofs.Names.{ones, refl, subst, sym, take}
+use Rattle.tor_recheck.proofs.Names.{IsFault, option_map, of_engine_error}
 use Rattle.tor_recheck.proofs.Names.{[], IsGiven, IsGivenPieces, PlanFacts}
 use Rattle.tor_recheck.proofs.LotGiven.{given_own, of_own}
 use Rattle.tor_recheck.proofs.RecheckFaults.{given_of}
@@ -27,17 +26,17 @@ bits_between-requires-clause-within g c =
     let planned = c.in_ok-plan.ensures.planned in
     let from = c.first_of_lot-from.result in
     let to = c.first_of_lot-to.result in
-    let units = ap length c.units-units.ensures.value in
-    let begins = c.first_of_lot-from.ensures.result ∙ ap₂ (λ n l. first_of_lot n lots l) units c.from.ensures in
-    let ends = c.first_of_lot-to.ensures.result ∙ ap₂ (λ n l. first_of_lot n lots (l + 1)) units c.from-2.ensures in
+    let count = c.piece_count-count.ensures in
+    let begins = c.first_of_lot-from.ensures.result ∙ ap₂ (λ n l. first_of_lot n lots l) count c.from.ensures in
+    let ends = c.first_of_lot-to.ensures.result ∙ ap₂ (λ n l. first_of_lot n lots (l + 1)) count c.from-2.ensures in
     let hashes = c.in-Ok.found.hashes in
     let full_is = c.in_ok-hashes.ensures in
     let bits_are = c.in_ok-bits.ensures in
-    let count = ap length bits_are
+    let all = ap length bits_are
     ∙ judged_counted view cut plan planned lots c.args.lot from to begins ends c.in_ok-hashes.hashes hashes full_is
     (hashes_counted view cut plan planned lots c.args.lot from to begins ends c.in-Ok.found.lengths.items hashes
     c.in-Ok.ensures.there) in
-    omega (arith, count)
+    omega (arith, all)
 
 pub returns-in-Err-clause-found : goal.returns-in-Err-clause-found
 returns-in-Err-clause-found g c = λ how facts steady.
@@ -48,14 +47,11 @@ returns-in-Err-clause-found g c = λ how facts steady.
     let planned = c.in_ok-plan.ensures.planned in
     let from = c.first_of_lot-from.result in
     let to = c.first_of_lot-to.result in
-    let units = ap length c.units-units.ensures.value in
-    let begins = c.first_of_lot-from.ensures.result ∙ ap₂ (λ n l. first_of_lot n lots l) units c.from.ensures in
-    let ends = c.first_of_lot-to.ensures.result ∙ ap₂ (λ n l. first_of_lot n lots (l + 1)) units c.from-2.ensures in
+    let count = c.piece_count-count.ensures in
+    let begins = c.first_of_lot-from.ensures.result ∙ ap₂ (λ n l. first_of_lot n lots l) count c.from.ensures in
+    let ends = c.first_of_lot-to.ensures.result ∙ ap₂ (λ n l. first_of_lot n lots (l + 1)) count c.from-2.ensures in
     let own = c.deref.result.now in
-    let own_is = c.deref.ensures.value ∙ c.in_ok-own.ensures
-    ∙ ap₂ (λ (units : List PlanUnit) n. map (λ file. list_any (has_bytes_of file) units) (range_with_len 0 n))
-    (c.between.ensures ∙ ap (λ (units : List PlanUnit). take (to - from) (drop from units)) c.units-units.ensures.value)
-    (ap length c.lengths.ensures) in
+    let own_is = c.deref.ensures.value ∙ c.in_ok-own.ensures in
     let fault = c.in-Err.ensures.hashed (own_facts own facts) (facts, steady, refl) in
     subst (λ error. IsFault (first_lot_fault facts view lots c.args.lot) error) (sym c.into.ensures)
     (same_fault view cut plan planned lots c.args.lot from to begins ends facts own own_is c.in-Err.error fault)
@@ -69,14 +65,11 @@ returns-clause-found g c = λ how facts steady.
     let planned = c.in_ok-plan.ensures.planned in
     let from = c.first_of_lot-from.result in
     let to = c.first_of_lot-to.result in
-    let units = ap length c.units-units.ensures.value in
-    let begins = c.first_of_lot-from.ensures.result ∙ ap₂ (λ n l. first_of_lot n lots l) units c.from.ensures in
-    let ends = c.first_of_lot-to.ensures.result ∙ ap₂ (λ n l. first_of_lot n lots (l + 1)) units c.from-2.ensures in
+    let count = c.piece_count-count.ensures in
+    let begins = c.first_of_lot-from.ensures.result ∙ ap₂ (λ n l. first_of_lot n lots l) count c.from.ensures in
+    let ends = c.first_of_lot-to.ensures.result ∙ ap₂ (λ n l. first_of_lot n lots (l + 1)) count c.from-2.ensures in
     let own = c.deref.result.now in
-    let own_is = c.deref.ensures.value ∙ c.in_ok-own.ensures
-    ∙ ap₂ (λ (units : List PlanUnit) n. map (λ file. list_any (has_bytes_of file) units) (range_with_len 0 n))
-    (c.between.ensures ∙ ap (λ (units : List PlanUnit). take (to - from) (drop from units)) c.units-units.ensures.value)
-    (ap length c.lengths.ensures) in
+    let own_is = c.deref.ensures.value ∙ c.in_ok-own.ensures in
     let hashes = c.in-Ok.found.hashes in
     let full_is = c.in_ok-hashes.ensures in
     let bits_are = c.in_ok-bits.ensures in
@@ -98,18 +91,18 @@ returns-clause-counted g c =
     let planned = c.in_ok-plan.ensures.planned in
     let from = c.first_of_lot-from.result in
     let to = c.first_of_lot-to.result in
-    let units = ap length c.units-units.ensures.value in
-    let begins = c.first_of_lot-from.ensures.result ∙ ap₂ (λ n l. first_of_lot n lots l) units c.from.ensures in
-    let ends = c.first_of_lot-to.ensures.result ∙ ap₂ (λ n l. first_of_lot n lots (l + 1)) units c.from-2.ensures in
+    let count = c.piece_count-count.ensures in
+    let begins = c.first_of_lot-from.ensures.result ∙ ap₂ (λ n l. first_of_lot n lots l) count c.from.ensures in
+    let ends = c.first_of_lot-to.ensures.result ∙ ap₂ (λ n l. first_of_lot n lots (l + 1)) count c.from-2.ensures in
     let hashes = c.in-Ok.found.hashes in
     let full_is = c.in_ok-hashes.ensures in
     let bits_are = c.in_ok-bits.ensures in
-    let count = ap length bits_are
+    let all = ap length bits_are
     ∙ judged_counted view cut plan planned lots c.args.lot from to begins ends c.in_ok-hashes.hashes hashes full_is
     (hashes_counted view cut plan planned lots c.args.lot from to begins ends c.in-Ok.found.lengths.items hashes
     c.in-Ok.ensures.there) in
     ap length c.in_ok-bits_between.ensures
-    ∙ counted view cut plan planned lots c.args.lot from to begins ends c.in_ok-bits.bits count
+    ∙ counted view cut plan planned lots c.args.lot from to begins ends c.in_ok-bits.bits all
 
 pub returns-in-Err-clause-of_lot : goal.returns-in-Err-clause-of_lot
 returns-in-Err-clause-of_lot g c =
@@ -120,14 +113,11 @@ returns-in-Err-clause-of_lot g c =
     let planned = c.in_ok-plan.ensures.planned in
     let from = c.first_of_lot-from.result in
     let to = c.first_of_lot-to.result in
-    let units = ap length c.units-units.ensures.value in
-    let begins = c.first_of_lot-from.ensures.result ∙ ap₂ (λ n l. first_of_lot n lots l) units c.from.ensures in
-    let ends = c.first_of_lot-to.ensures.result ∙ ap₂ (λ n l. first_of_lot n lots (l + 1)) units c.from-2.ensures in
+    let count = c.piece_count-count.ensures in
+    let begins = c.first_of_lot-from.ensures.result ∙ ap₂ (λ n l. first_of_lot n lots l) count c.from.ensures in
+    let ends = c.first_of_lot-to.ensures.result ∙ ap₂ (λ n l. first_of_lot n lots (l + 1)) count c.from-2.ensures in
     let own = c.deref.result.now in
-    let own_is = c.deref.ensures.value ∙ c.in_ok-own.ensures
-    ∙ ap₂ (λ (units : List PlanUnit) n. map (λ file. list_any (has_bytes_of file) units) (range_with_len 0 n))
-    (c.between.ensures ∙ ap (λ (units : List PlanUnit). take (to - from) (drop from units)) c.units-units.ensures.value)
-    (ap length c.lengths.ensures) in
+    let own_is = c.deref.ensures.value ∙ c.in_ok-own.ensures in
     let answers = g.S.Source.answers c.args.source.now in
     let files = ap (λ (p : PlanFacts). length p.lengths) planned ∙ count_is view [] cut in
     subst (λ error. IsOfLot view lots c.args.lot error) (sym c.into.ensures)

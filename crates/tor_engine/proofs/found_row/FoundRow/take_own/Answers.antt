@@ -1,4 +1,4 @@
-use Rattle.std.proofs.Common.{◌≡◌, ◌∙◌, List, ap, length, replicate, sym}
+use Rattle.std.proofs.Common.{◌≡◌, ◌∙◌, List, Vec, ap, length, replicate, sym}
 use Rattle.std.proofs.lemmas.List.{with_items_is}
 use Rattle.tor_sums.specs.steps.Owing.{paid_each}
 use Rattle.tor_engine.specs.declared.found_row.FoundRow.TheInside.{Inside}
@@ -22,8 +22,10 @@ returns-clause-paid c =
           ap (λ (inside : Inside). found_in inside.row) w.self-inside-is
           ∙ c.self.view_is ∙ sym old ∙ missing_paid count sums ∙ ap paid old
       | in-Each w ↦
-          let found = w.in-Each.found in
-          let old : found.items ≡ c.args.self.now = ap found_in (sym w.in-Each.is) ∙ c.self.view_is in
+          let found = w.deref_mut.result.now in
+          let old : found.items ≡ c.args.self.now =
+          ap (λ (each : Vec FoundPiece _). each.items) w.deref_mut.ensures.value
+          ∙ ap found_in (sym w.in-Each.is) ∙ c.self.view_is in
           let same = w.pay.ensures.paid ∙ ap paid w.as_mut_slice.ensures.value in
           let long = ap length same ∙ paid_length owed_to_piece paid_piece found.items sums ∙ sym found.ok.0 in
           ap (λ (inside : Inside). found_in inside.row) w.self-inside-is

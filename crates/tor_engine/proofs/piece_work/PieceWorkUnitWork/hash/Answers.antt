@@ -10,15 +10,15 @@ use Rattle.tor_engine.proofs.piece_work.PieceWorkUnitWork.hash.Goals as goal
 pub find_pieces_of-requires-clause-owing : goal.find_pieces_of-requires-clause-owing
 find_pieces_of-requires-clause-owing g c = (c.requires.stands.2.0, c.requires.stands.2.1)
 
-pub returns-in-Ok-clause-stands : goal.returns-in-Ok-clause-stands
-returns-in-Ok-clause-stands g c = λ units before stands.
+pub returns-clause-stands : goal.returns-clause-stands
+returns-clause-stands g c = λ units before stands.
     let work = c.args.self.now in
     let is_steady = g.S.FileBytes.is_steady work.source.now in
     let told = work.known.now.lengths.items in
     let pieces = pieces_of_unit work.plan.now.piece_length c.args.unit.now in
     let found = c.in-Ok.ensures.owing stands.0 stands.1 in
     let each = subst (λ (founds : List FoundPiece).
-    OweEach (FindsPiece is_steady work.plan.now told) pieces founds found.0) (sym c.of.ensures) found.1 in (
+    OweEach (FindsPiece is_steady work.plan.now told) pieces founds found.0) (sym c.in_ok-pieces.ensures) found.1 in (
       stands.0 ++ found.0,
       found.2,
       owe_next (OwePieces is_steady work.plan.now told) units before stands.0 c.args.unit.now _ found.0 stands.2

@@ -1,5 +1,5 @@
 -- the whole unit, or each piece
-use Rattle.std.proofs.Common.{inl, inr, length, map, refl, subst, sym, ◌∙◌}
+use Rattle.std.proofs.Common.{inl, inr, length, map, subst, sym, ◌∙◌}
 use Rattle.tor_plan.specs.Pieces.{pieces_of_unit}
 use Rattle.tor_sums.specs.Contents.{contents_in}
 use Rattle.tor_sums.specs.steps.Given.{IsGivenRead, lengths_of_sizes}
@@ -8,8 +8,8 @@ use Rattle.tor_engine.specs.steps.Pieces.{hashes_in, unit_pieces_fault}
 use Rattle.tor_engine.specs.steps.Readable.{FindsUnit}
 use Rattle.tor_sums.proofs.PaidSums.{if_ok_more}
 use Rattle.tor_engine.proofs.Each.{each_next}
-use Rattle.tor_engine.proofs.FoundReadable.{both_err, both_ok, finds_as, finds_clean, no_other, no_read}
-use Rattle.tor_engine.proofs.FoundReadable.{pieces_are_read}
+use Rattle.tor_engine.proofs.FoundReadable.{finds_clean}
+use Rattle.tor_engine.proofs.ReadFaults.{both_err, both_ok, no_other, no_read, pieces_are_read}
 use Rattle.tor_engine.proofs.readable_work.ReadableWorkUnitWork.hash.Goals as goal
 
 pub returns-in-Ok-clause-stands : goal.returns-in-Ok-clause-stands
@@ -22,9 +22,8 @@ returns-in-Ok-clause-stands g c = λ units before each.
     let pieces = pieces_of_unit plan.piece_length c.args.unit.now in (
       c.in-Ok.ensures.owing,
       each_next (FindsUnit is_steady may_be plan told) units c.args.unit.now before _ each.1
-          (finds_as is_steady may_be plan told refl refl (sym c.new-faults.ensures.items)
           (finds_clean is_steady may_be plan told pieces (map hashes_in c.in-Ok.found.pieces)
-          c.in-Ok.ensures.hashed.steady c.in-Ok.ensures.hashed.there c.in-Ok.ensures.fault)),
+          c.in-Ok.ensures.hashed.steady c.in-Ok.ensures.hashed.there c.in-Ok.ensures.fault),
     )
 
 pub returns-in-Err-as_read_fault-clause-fault : goal.returns-in-Err-as_read_fault-clause-fault
