@@ -25,23 +25,26 @@ def file_of(length, root):
 
 
 def expect_nothing_there(program, folder, text, count, ways):
-    """A recheck in each of these ways, in an address space of so many KiB, finds none of so many pieces."""
+    """A recheck in each of these ways, in an address space of so many KiB, finds none of so many pieces, or of those
+    of its part."""
     (folder / 'torrent').write_bytes(text)
-    wanted = done(reference.recheck_lines([False] * count), 1 if count else 0)
     for words, kibibytes in ways:
+        parts = int(words[1].split('/')[1]) if '--part' in words else 1
+        wanted = done(reference.recheck_lines([False] * (count // parts)), 1 if count else 0)
         expect(program, ['recheck', '--workers', '1', *words, str(folder / 'torrent'), str(folder)], wanted,
                preexec_fn=lambda room=kibibytes: limited(room), env={**os.environ, 'MALLOC_ARENA_MAX': '1'})
 
 
 def test_pieces_of_one_layer(program, folder):
-    """512 files of one root, in half a megabyte: 8,388,608 pieces, of which each may hold 7 bytes, or 11 to keep going.
-    So many fill what grows by doubling."""
+    """512 files of one root, in half a megabyte: 8,388,608 pieces, for each of which 6 bytes may be held, or 8 to keep
+    going or in a part of them. So many fill what grows by doubling."""
     hashes = [hashlib.sha256(b'%d' % number).digest() for number in range(1 << 14)]
     root = root_of(hashes)
     tree = {b'%03d' % number: file_of(len(hashes) * BLOCK - number, root) for number in range(512)}
     text = in_tree(tree, {root: b''.join(hashes)}.items())
     expect_nothing_there(program, folder, text, 512 * len(hashes),
-                         [([], 64_000), (['--no-links'], 64_000), (['--keep-going'], 93_000)])
+                         [([], 55_000), (['--no-links'], 55_000), (['--keep-going'], 72_000),
+                          (['--part', '0/4'], 72_000), (['--part', '3/4'], 72_000)])
 
 
 def test_files_below_long_names(program, folder):
@@ -60,19 +63,34 @@ def test_files_below_deep_folders(program, folder):
     expect_nothing_there(program, folder, in_tree(tree), 0, [([], 90_000), (['--keep-going'], 90_000)])
 
 
-def test_opens_of_a_recheck(program, folder):
-    """A file of 65 pieces has five units of at most 16. Without its last byte the last of them is not there."""
+def expect_opens(program, folder, count, rows):
+    """A recheck of a file of so many pieces, as each kind. A row has words, how many bytes are cut off the file, the
+    first piece that is told, and how often the file is opened as v1, v2 and hybrid."""
     refuser, place, torrent = Refuser(program, folder), folder / 'file', folder / 'torrent'
-    content = os.urandom(65 * BLOCK)
-    for kind in ['v1', 'v2', 'hybrid']:
+    content = os.urandom(count * BLOCK)
+    for index, kind in enumerate(['v1', 'v2', 'hybrid']):
         place.write_bytes(content)
         made = refuser.run(['make', '--name', 'file', '--kind', kind, '--piece-length', str(BLOCK), str(place)])
         expect_equal(f'{kind}: status of make', 0, made.status)
         torrent.write_bytes(made.out)
-        for length, there, opened in [(len(content), 65, 5), (len(content) - 1, 64, 4)]:
-            place.write_bytes(content[:length])
-            ended = refuser.run(['recheck', '--workers', '1', str(torrent), str(place)],
-                                Meet('o', 1, ALL_LATER, 'tell'))
-            expect_equal(f'{kind}, {length} bytes', reference.recheck_lines([n < there for n in range(65)]), ended.out)
-            expect_equal(f'{kind}, {length} bytes: opened', opened,
+        for words, cut, first, opened in rows:
+            place.write_bytes(content[:len(content) - cut])
+            ended = refuser.run(['recheck', *words, str(torrent), str(place)], Meet('o', 1, ALL_LATER, 'tell'))
+            expect_equal(f'{kind}, {words}, {cut} bytes cut off',
+                         reference.recheck_lines([n < count - cut for n in range(first, count)]), ended.out)
+            expect_equal(f'{kind}, {words}, {cut} bytes cut off: opened', opened[index],
                          sum(met.place == str(place) for met in ended.met))
+
+
+def test_opens_of_a_recheck(program, folder):
+    """65 pieces are five units of at most 16. Without its last byte the last of them is not there."""
+    expect_opens(program, folder, 65, [(['--workers', '1'], 0, 0, [5, 5, 5]),
+                                       (['--workers', '1'], 1, 0, [4, 4, 4])])
+
+
+def test_opens_of_a_part(program, folder):
+    """The second half of 165 pieces begins within a unit, of which it has eight; then come four units and five pieces.
+    With version 1 the bytes of a megabyte are hashed together, which ends within a unit. Two workers would have fewer
+    than 64 pieces each, so every piece is a unit."""
+    expect_opens(program, folder, 165, [(['--workers', '1', '--part', '1/2'], 0, 88, [14, 13, 14]),
+                                        (['--workers', '2', '--part', '1/2'], 0, 88, [77, 77, 77])])
