@@ -17,7 +17,7 @@
 //!   pieces, which `piece_run.rt` cuts out of the plan, both with the hashes held unit by unit ([`PieceHashes`],
 //!   `piece_hashes.rt`). `asked.rt` asks for the lengths, `present.rt` tells what is there by them, and `piece_work.rt`
 //!   hashes the pieces of a unit, one after the other, or together if the unit is wholly there (`together.rt`);
-//!   `found_row.rt` holds what was found of a unit.
+//!   `found_row.rt` holds what was found of a unit. `busy.rt` tells how many workers have something to do.
 //! - [`find_readable`] (`readable.rt`): the same as far as the pieces can be read ([`ReadablePieces`]), and what could
 //!   not be ([`ReadFault`], `read_fault.rt`). `asking.rt` asks for the lengths, `seen.rt` is the source without the
 //!   files whose lengths fail, and `readable_work.rt` hashes a unit at once, and after a fault each of its pieces by
@@ -43,6 +43,7 @@
 mod alone;
 mod asked;
 mod asking;
+mod busy;
 mod engine;
 mod failure;
 mod found_row;

@@ -18,6 +18,7 @@ ghost use Rattle.tor_engine.specs.steps.Pieces.{IsPaddingSum, IsUnitToHash, MayH
 ghost use Rattle.tor_engine.specs.steps.Pieces.{has_long_zeros};
 
 use crate::asked::{ask_each, expect_each};
+use crate::busy::{keeps_busy, with_work};
 use crate::piece_hash::PieceHash;
 use crate::piece_hashes::PieceHashes;
 use crate::piece_run::units_of_pieces;
@@ -155,14 +156,6 @@ pub fn find_pieces_between<S: Source, R: Threads + Sync>(
     }
 }
 
-/// Whether each worker gets four units and more, if so many pieces are joined to units of 16.
-fn keeps_busy(count: usize, how: How) -> bool {
-    match how {
-        How::One => true,
-        How::Halves(workers) | How::Board(workers) => count / 64 >= workers as usize,
-    }
-}
-
 /// The hashes of the pieces of units, if the lengths of all files were told: those pieces are read that are wholly
 /// there, and then every length is asked again.
 fn hash_known<S: Source, R: Threads + Sync>(
@@ -204,6 +197,7 @@ fn hash_known<S: Source, R: Threads + Sync>(
     let forest = Forest {
         trees: Vec::new(alloc),
     };
+    let how = with_work(how, units, known.lengths.as_slice());
     let (units_hashed, _) = match hash_units(rt, &work, units, &forest, how) {
         Ok(hashed) => hashed,
         Err(error) => return Err(error),

@@ -26,7 +26,7 @@ fn is_part_there(told: &[Option<u64>], part: &Part) -> bool
 }
 
 /// The length that was told of a file, 0 of one that is missing.
-fn length_told(told: &[Option<u64>], file: u64) -> u64
+pub(crate) fn length_told(told: &[Option<u64>], file: u64) -> u64
     ensures { result ≡ length_told told.now file }
 {
     item_at(told, file as usize).flatten().unwrap_or(0)

@@ -16,6 +16,7 @@ ghost use Rattle.tor_engine.specs.steps.Readable.{FindsReadable, seen_may_be, se
 ghost use Rattle.tor_engine.specs.steps.ReadableUnit.{faults_found};
 
 use crate::asking::{ask_readable, expect_readable};
+use crate::busy::with_work;
 use crate::piece_hashes::PieceHashes;
 use crate::piece_work::Known;
 use crate::pieces::padding_sum;
@@ -136,6 +137,7 @@ fn hash_readable<S: Source, R: Threads + Sync>(
     let forest = Forest {
         trees: Vec::new(alloc),
     };
+    let how = with_work(how, units, seen.lengths);
     let (found, _) = match hash_units(rt, &work, units, &forest, how) {
         Ok(found) => found,
         Err(error) => return Err(error),

@@ -1,5 +1,6 @@
 -- Which bytes of a file are in pieces whose bits are not set.
-use Rattle.std.specs.Prelude.{◌≡◌, ℕ, ◌+◌, ◌/◌, ◌<◌, ◌==◌, Bool, false, not, ◌&&◌, List, leb, map, max, min, nat_lt, slice_index_or}
+use Rattle.std.specs.Prelude.{◌≡◌, ℕ, ◌+◌, ◌/◌, ◌<◌, ◌==◌, Bool, false, not, ◌&&◌, List, leb, map, max, min, nat_lt}
+use Rattle.std.specs.Prelude.{slice_index_or}
 use Rattle.std.specs.List.{All, AllPairs, list_any}
 use Rattle.tor_plan.specs.declared.units.PlanUnit.{PlanUnit}
 use Rattle.tor_recheck.specs.Files.{file_spans}
