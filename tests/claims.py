@@ -11,7 +11,7 @@ from support import done, expect, expect_equal
 
 
 def limited(kibibytes):
-    """Limits the address space of a process. The C library has one arena in it, and the program one worker."""
+    """Limits the address space of a process, in which the C library has one arena."""
     resource.setrlimit(resource.RLIMIT_AS, (kibibytes << 10, kibibytes << 10))
 
 
@@ -26,12 +26,12 @@ def file_of(length, root):
 
 def expect_nothing_there(program, folder, text, count, ways):
     """A recheck in each of these ways, in an address space of so many KiB, finds none of so many pieces, or of those
-    of its part."""
+    of its part. If none is there, it starts no thread, however many workers it may have."""
     (folder / 'torrent').write_bytes(text)
     for words, kibibytes in ways:
         parts = int(words[1].split('/')[1]) if '--part' in words else 1
         wanted = done(reference.recheck_lines([False] * (count // parts)), 1 if count else 0)
-        expect(program, ['recheck', '--workers', '1', *words, str(folder / 'torrent'), str(folder)], wanted,
+        expect(program, ['recheck', '--workers', '64', *words, str(folder / 'torrent'), str(folder)], wanted,
                preexec_fn=lambda room=kibibytes: limited(room), env={**os.environ, 'MALLOC_ARENA_MAX': '1'})
 
 
