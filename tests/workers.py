@@ -139,13 +139,15 @@ def reads_at_once(refuser, words, torrent, wanted, first=1):
 
 
 def test_a_recheck_reads_by_as_many_as_asked_for(program, folder):
-    """Of 200 units, and of three, of which there are no more to be read at once."""
+    """Of 200 units, and of three, of which there are no more to be read at once. In a small part each of the 24 pieces
+    is a unit."""
     refuser, torrent = Refuser(program, folder), str(folder / 'torrent')
     for units, rows in [
             (200, [(['--workers', '16', '--files', '--bad'], 16), (['--workers', '64'], 64), ([], 4), (['--files'], 4),
                    (['--workers=64', '--json', '--files'], 64), (['--bad', '--null', '--workers=17'], 17),
                    (['--workers', '1', '--files'], 1)]),
-            (3, [(['--workers', '64', '--files'], 3), (['--workers', '2'], 2)])]:
+            (3, [(['--workers', '64', '--files'], 3), (['--workers', '2'], 2),
+                 (['--workers', '16', '--part', '0/2'], 16)])]:
         pieces = units * 16
         path = sparse(folder, pieces * BLOCK)
         with open(torrent, 'wb') as file:
