@@ -6,6 +6,7 @@ use crate::faults::{ScanFault, is_absence};
 use crate::found::{FoundFiles, add_file, none_found, refuse_last};
 use crate::listed_file::ListedFile;
 use crate::open_folders::OpenFolders;
+use crate::place::Place;
 use crate::refused::{Refusal, kind_of};
 use std::alloc::{AllocError, Global};
 use std::io::{self, ErrorKind};
@@ -58,10 +59,24 @@ where
     R::File: AsRawFd,
     ensures { IfOk result (HasLookedFor files.now) }
 {
-    let mut found = none_found(alloc);
     let mut leading = LeadingFolders::at_top(rt, alloc, root)?;
+    find_from_top(rt, alloc, &mut leading, files)
+}
+
+// What is found of these files, which are looked for from the top folder on.
+fn find_from_top<R: Files>(
+    rt: &R,
+    alloc: Global,
+    leading: &mut LeadingFolders<R>,
+    files: &[FilePath],
+) -> Result<FoundFiles, ScanFault>
+where
+    R::File: AsRawFd,
+    ensures { IfOk result (HasLookedFor files.now) }
+{
+    let mut found = none_found(alloc);
     'files: for file in files {
-        let sought = look_for(rt, alloc, &mut leading, file.names())?;
+        let sought = look_for(rt, alloc, leading, file.names())?;
         settle(alloc, sought, file, &mut found)?;
     }
     Ok(found)
@@ -132,8 +147,9 @@ where
     if let Some(refusal) = go_on(rt, alloc, leading, folders)? {
         return Ok(Sought::NotTaken(refusal));
     }
-    let place = leading.open.place_of(alloc, names)?;
-    let metadata = rt.symlink_metadata(&place)?;
+    let mut place = Place::new();
+    leading.open.write_place(names, &mut place)?;
+    let metadata = rt.symlink_metadata(place.as_str())?;
     if !metadata.is_file() {
         return Ok(Sought::NotTaken(Refusal::NotRegular(kind_of(&metadata))));
     }
@@ -164,17 +180,18 @@ fn go_on<R: Files>(
 where
     R::File: AsRawFd,
 {
+    let mut place = Place::new();
     for depth in leading.names.len()..folders.len() {
         let (above, _) = folders.split_at(depth + 1);
-        let place = leading.open.place_of(alloc, above)?;
-        let metadata = rt.symlink_metadata(&place)?;
+        leading.open.write_place(above, &mut place)?;
+        let metadata = rt.symlink_metadata(place.as_str())?;
         if metadata.is_file() {
             return Ok(Some(Refusal::Missing));
         }
         if !metadata.is_dir() {
             return Ok(Some(Refusal::NotRegular(kind_of(&metadata))));
         }
-        leading.open.go_into(rt, alloc, &place, &metadata)?;
+        leading.open.go_into(rt, alloc, place.as_str(), &metadata)?;
         leading.names.push(folders[depth].copy(alloc)?)?;
     }
     Ok(None)

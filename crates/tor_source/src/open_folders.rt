@@ -4,7 +4,8 @@ ghost use Rattle.std.specs.Prelude.{◌≤◌, vec_len};
 
 use crate::faults::{ScanFault, is_absence};
 use crate::listed_file::FileNumber;
-use crate::places::{place_below, without_slash};
+use crate::place::Place;
+use crate::places::without_slash;
 use std::alloc::{AllocError, Global};
 use std::fs::{self, Metadata, OpenFile};
 use std::io::{self, ErrorKind};
@@ -28,6 +29,8 @@ struct OpenFolder<F: Drop> {
 pub(crate) struct OpenFolders<R: Files> {
     /// Where the system has what this program holds open, by its number.
     descriptors: Option<String>,
+    /// The place of the top folder itself, as it was given.
+    root: String,
     top: OpenFolder<R::File>,
     /// Each in the one before, the first in the top one.
     below: Vec<OpenFolder<R::File>>,
@@ -41,15 +44,22 @@ where
     pub(crate) fn at_top(rt: &R, alloc: Global, root: &str) -> Result<OpenFolders<R>, ScanFault> {
         judge_folder(rt, root)?;
         let mut folders = OpenFolders::unheld(alloc, root)?;
-        if let Some(descriptors) = descriptors(rt, alloc)? {
-            let file = open_folder(rt, alloc, &folders.top.place)?;
-            let top = hold(alloc, &descriptors, file)?;
-            if is_there(rt, &top)? {
-                folders.descriptors = Some(descriptors);
-                folders.top = top;
-            }
-        }
+        folders.hold_top(rt, alloc)?;
         Ok(folders)
+    }
+
+    // Holds the top folder open, if the system has a place for what is.
+    fn hold_top(&mut self, rt: &R, alloc: Global) -> Result<(), ScanFault> {
+        let Some(descriptors) = descriptors(rt, alloc)? else {
+            return Ok(());
+        };
+        let file = open_folder(rt, alloc, &self.top.place)?;
+        let top = hold(alloc, &descriptors, file)?;
+        if is_there(rt, &top)? {
+            self.descriptors = Some(descriptors);
+            self.top = top;
+        }
+        Ok(())
     }
 
     /// The names in the top folder, as the system lists them.
@@ -57,11 +67,24 @@ where
         names_in(rt, alloc, &self.top.place)
     }
 
+    /// Judges that the folder at the place of the top one is still that which is held open.
+    pub(crate) fn judge_top(&self, rt: &R) -> Result<(), ScanFault> {
+        let Some(file) = &self.top.file else {
+            return Ok(());
+        };
+        if FileNumber::of(&file.metadata()?).is(FileNumber::of(&rt.metadata(&self.root)?)) {
+            Ok(())
+        } else {
+            Err(ScanFault::System)
+        }
+    }
+
     // The top folder, whose place is its own.
     fn unheld(alloc: Global, root: &str) -> Result<OpenFolders<R>, AllocError> {
         let place = String::from_str(alloc, without_slash(root))?;
         Ok(OpenFolders {
             descriptors: None,
+            root: String::from_str(alloc, root)?,
             top: OpenFolder { file: None, place },
             below: Vec::new(alloc),
         })
@@ -74,11 +97,16 @@ where
         self.below.truncate(depth);
     }
 
-    /// Where the system is asked for what these names lead to: in the last folder that is held open.
-    pub(crate) fn place_of(&self, alloc: Global, names: &[Name]) -> Result<String, AllocError> {
+    /// Writes where the system is asked for what these names lead to: in the last folder that is held open. What is in
+    /// the top one is asked for at its own place, if that is not too long: it takes half the time, and no link below
+    /// the top folder is on that way.
+    pub(crate) fn write_place(&self, names: &[Name], place: &mut Place) -> io::Result<()> {
+        if names.len() == 1 && place.write(without_slash(&self.root), names).is_ok() {
+            return Ok(());
+        }
         let folder = self.below.last().unwrap_or(&self.top);
         let (_, names) = names.split_at(self.below.len().min(names.len()));
-        place_below(alloc, &folder.place, names)
+        place.write(&folder.place, names)
     }
 
     /// Goes into the folder at a place that was asked for, and has to be the one of which this was told then; and its

@@ -6,8 +6,7 @@ ghost use Rattle.std.specs.declared.io.ErrorKind.TheVariants.{InvalidFilename};
 ghost use Rattle.tor_source.specs.Places.{place_below, place_of, without_slash};
 ghost use Rattle.tor_source.specs.declared.faults.TheConstants.{MAX_PLACE};
 
-use crate::faults::MAX_PLACE;
-use arrayvec::ArrayString;
+use crate::place::Place;
 use std::alloc::{AllocError, Global};
 use std::io;
 use std::marker::Model;
@@ -30,12 +29,6 @@ pub(crate) enum Files {
     /// So many, all at this one place.
     Here(usize),
 }
-
-/// A place that is no longer than the system takes.
-pub(crate) type Place = ArrayString<MAX_PLACE>;
-
-/// The number of the system's fault for a longer one (Linux, ENAMETOOLONG).
-const NAME_TOO_LONG: i32 = 36;
 
 impl Model for Places {
     ghost use Rattle.std.specs.Prelude.{ℕ, List};
@@ -92,12 +85,12 @@ impl Places {
     /// that the system would have is answered.
     pub(crate) fn write(&self, file: usize, place: &mut Place) -> io::Result<()>
         requires { file < length self.now }
-        ensures written { OnOk result (place.new.bytes ≡ slice_index_or self.now file []) }
+        ensures written { OnOk result (place.new ≡ slice_index_or self.now file []) }
         ensures refused { IfErr result (λ fault. (error_kind fault ≡ InvalidFilename)
             × (MAX_PLACE < length (slice_index_or self.now file []))) }
     {
         let (folder, names) = self.parts(file);
-        write_below(folder, names, place)
+        place.write(folder, names)
     }
 
     /// The place of a file, however long it is.
@@ -118,33 +111,6 @@ impl Places {
             Files::Below(files) => (&self.folder, files[file].names()),
             Files::Here(_) => (&self.folder, &[]),
         }
-    }
-}
-
-// Writes a place, and each name after a slash, in place of what was there.
-fn write_below(place: &str, names: &[Name], text: &mut Place) -> io::Result<()>
-    ensures written { OnOk result (text.new.bytes ≡ place_below place.now names.now) }
-    ensures refused { IfErr result (λ fault. (error_kind fault ≡ InvalidFilename)
-        × (MAX_PLACE < length (place_below place.now names.now))) }
-{
-    text.clear();
-    append(place, text)?;
-    for name in names {
-        append("/", text)?;
-        append(name.as_str(), text)?;
-    }
-    Ok(())
-}
-
-// Appends to a place; if it is longer than the system takes then, that is the fault that the system has for it.
-fn append(more: &str, text: &mut Place) -> io::Result<()>
-    ensures appended { OnOk result (text.new.bytes ≡ text.old.bytes ++ more.now) }
-    ensures refused { IfErr result (λ fault. (error_kind fault ≡ InvalidFilename)
-        × (MAX_PLACE < length text.old.bytes + length more.now)) }
-{
-    match text.try_push_str(more) {
-        Ok(()) => Ok(()),
-        Err(_) => Err(io::Error::from_raw_os_error(NAME_TOO_LONG)),
     }
 }
 

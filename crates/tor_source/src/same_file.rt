@@ -3,7 +3,8 @@ ghost use Rattle.std.specs.Prelude.{◌≡◌, ◌⊎◌, IfErr};
 ghost use Rattle.tor_source.specs.declared.faults.ScanFault.TheVariants.{Memory, System};
 
 use crate::faults::{ScanFault, is_absence_at};
-use crate::places::{Place, Places};
+use crate::place::Place;
+use crate::places::Places;
 use std::fs::Metadata;
 use std::io::ErrorKind;
 use std::os::unix::fs::MetadataExt;

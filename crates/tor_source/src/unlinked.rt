@@ -10,7 +10,8 @@ use crate::faults::{ScanFault, is_absence};
 use crate::folder::FolderSource;
 use crate::listed_file::{FileNumber, ListedFile, read_listed, untold};
 use crate::named::{LeadingFolders, Sought, look_for};
-use crate::places::{Place, Places};
+use crate::place::Place;
+use crate::places::Places;
 use crate::refused::{OtherKind, Refusal};
 use crate::regular::gives_byte;
 use std::alloc::{AllocError, Global};
@@ -181,7 +182,7 @@ where
         return Ok(vec![in alloc; met; files.len()]?);
     }
     match LeadingFolders::at_top(rt, alloc, root) {
-        Ok(leading) => met_on_way(rt, alloc, leading, files, wanted),
+        Ok(mut leading) => met_on_way(rt, alloc, &mut leading, files, wanted),
         Err(ScanFault::Memory) => Err(AllocError),
         Err(_) => Ok(vec![in alloc; Met::Untold(ErrorKind::Other); files.len()]?),
     }
@@ -201,7 +202,7 @@ fn top_met<R: Files>(rt: &R, root: &str) -> Result<Option<Met>, AllocError> {
 fn met_on_way<R: Files>(
     rt: &R,
     alloc: Global,
-    leading: LeadingFolders<R>,
+    leading: &mut LeadingFolders<R>,
     files: &[FilePath],
     wanted: &[bool],
 ) -> Result<Vec<Met>, AllocError>
@@ -209,11 +210,10 @@ where
     R::File: AsRawFd,
     ensures { IfOk result (λ met. vec_len met ≡ length files.now) }
 {
-    let mut leading = leading;
     let mut met = Vec::with_capacity(alloc, files.len())?;
     'files: for file in files {
         let is_wanted = *wanted.get(met.len()).unwrap_or(&true);
-        met.push(met_if(rt, alloc, &mut leading, file, is_wanted)?)?;
+        met.push(met_if(rt, alloc, leading, file, is_wanted)?)?;
     }
     Ok(met)
 }

@@ -12,6 +12,7 @@ use crate::folder_names::rising_names;
 use crate::found::{FoundFiles, add_file, none_found, refuse, refuse_last};
 use crate::listed_file::ListedFile;
 use crate::open_folders::OpenFolders;
+use crate::place::Place;
 use crate::refused::{Refusal, kind_of};
 use std::alloc::{AllocError, Global};
 use std::io::{self, ErrorKind};
@@ -48,24 +49,51 @@ where
     R::File: AsRawFd,
     ensures { IfOk result HasFound }
 {
-    let mut found = none_found(alloc);
-    let mut last = Vec::new(alloc);
     let mut open = OpenFolders::at_top(rt, alloc, root)?;
-    let mut waiting = names_at_top(alloc, rising_names(alloc, open.top_names(rt, alloc)?)?)?;
+    walk_from_top(rt, alloc, &mut open, ends)
+}
+
+/// All files below the top folder, which has to be at its place still when all is listed.
+fn walk_from_top<R: Files>(
+    rt: &R,
+    alloc: Global,
+    open: &mut OpenFolders<R>,
+    ends: bool,
+) -> Result<FoundFiles, ScanFault>
+where
+    R::File: AsRawFd,
+    ensures { IfOk result HasFound }
+{
+    let names = rising_names(alloc, open.top_names(rt, alloc)?)?;
+    let found = walk_on(rt, alloc, open, names, ends)?;
+    if !ends || found.refused.is_empty() {
+        open.judge_top(rt)?;
+    }
+    Ok(found)
+}
+
+/// All files in the top folder, which has these names, and below it.
+fn walk_on<R: Files>(
+    rt: &R,
+    alloc: Global,
+    open: &mut OpenFolders<R>,
+    names: Vec<Vec<u8>>,
+    ends: bool,
+) -> Result<FoundFiles, ScanFault>
+where
+    R::File: AsRawFd,
+    requires { IsStrictlySortedBy (λ name next. name_cmp name.items next.items) names.items }
+    ensures { IfOk result HasFound }
+{
+    let mut found = none_found(alloc);
+    let mut waiting = names_at_top(alloc, names)?;
+    let mut last = Vec::new(alloc);
     for _ in 0..u64::MAX {
         let Some(entry) = waiting.pop() else {
             return Ok(found);
         };
         open.leave(entry.depth);
-        enter(
-            rt,
-            alloc,
-            entry,
-            &mut open,
-            &mut last,
-            &mut waiting,
-            &mut found,
-        )?;
+        enter(rt, alloc, entry, open, &mut last, &mut waiting, &mut found)?;
         if ends && !found.refused.is_empty() {
             return Ok(found);
         }
@@ -172,10 +200,11 @@ where
     R::File: AsRawFd,
     ensures { IfOk result (IsStanding (length names.now)) }
 {
-    let place = open.place_of(alloc, names)?;
-    let metadata = rt.symlink_metadata(&place)?;
+    let mut place = Place::new();
+    open.write_place(names, &mut place)?;
+    let metadata = rt.symlink_metadata(place.as_str())?;
     if metadata.is_dir() {
-        let folder = open.enter(rt, alloc, &place, &metadata)?;
+        let folder = open.enter(rt, alloc, place.as_str(), &metadata)?;
         return Ok(Standing::Folder(rising_names(alloc, folder)?));
     }
     if !metadata.is_file() {

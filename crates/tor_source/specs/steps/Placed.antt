@@ -1,6 +1,8 @@
 -- Where the system has files of which names are held. Only private clauses cite this.
 use Rattle.std.specs.Prelude.{ℕ, List, map, replicate}
 use Rattle.tor_source.specs.Places.{place_below}
+use Rattle.tor_source.specs.declared.place.PlaceText.{PlaceText}
+use Rattle.tor_source.specs.declared.place.PlaceText.TheVariants.{Long, Short}
 use Rattle.tor_source.specs.declared.places.Files.{Files}
 use Rattle.tor_source.specs.declared.places.Files.TheVariants.{Below, Here}
 
@@ -8,3 +10,8 @@ use Rattle.tor_source.specs.declared.places.Files.TheVariants.{Below, Here}
 abbrev pub placed : List ℕ → Files → List (List ℕ)
 placed folder (Below files) = map (place_below folder) files.items
 placed folder (Here count) = replicate count folder
+
+-- the bytes of one place
+abbrev pub place_bytes : PlaceText → List ℕ
+place_bytes (Short text) = text.bytes
+place_bytes (Long text) = text.bytes

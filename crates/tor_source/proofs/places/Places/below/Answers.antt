@@ -1,5 +1,5 @@
 use Rattle.std.proofs.Common.{◌∙◌, sym}
-use Rattle.tor_source.proofs.Placed.{below_folder, below_none}
+use Rattle.tor_source.proofs.Placed.{below_none}
 use Rattle.tor_source.proofs.places.Places.below.Goals as goal
 
 pub returns-then-is_empty : goal.returns-then-is_empty

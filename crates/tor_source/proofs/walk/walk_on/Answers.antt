@@ -1,5 +1,5 @@
 use Rattle.tor_source.proofs.FoundFiles.{found_none}
-use Rattle.tor_source.proofs.walk.walk.Goals as goal
+use Rattle.tor_source.proofs.walk.walk_on.Goals as goal
 
 pub loop-init : goal.loop-init
 loop-init g c =

@@ -3,10 +3,10 @@ use Rattle.std.proofs.lemmas.List.{length_push}
 use Rattle.std.proofs.lemmas.Result.{err_from_is_err_and}
 use Rattle.tor_tree.specs.Name.{slash}
 use Rattle.tor_source.proofs.Placed.{is_longer}
-use Rattle.tor_source.proofs.places.write_below.Goals as goal
+use Rattle.tor_source.proofs.place.write_below.Goals as goal
 
 pub returns-in_err-append-2-clause-refused : goal.returns-in_err-append-2-clause-refused
-returns-in_err-append-2-clause-refused c =
+returns-in_err-append-2-clause-refused _ c =
     let p = err_from_is_err_and c.from_residual-in_err-append-2.result c.from_residual-in_err-append-2.ensures.1 in
     let refused = c.in_err-append-2.ensures.refused in
     rw (p.1, p.2) (
@@ -20,7 +20,7 @@ returns-in_err-append-2-clause-refused c =
     )
 
 pub returns-in_err-append-3-clause-refused : goal.returns-in_err-append-3-clause-refused
-returns-in_err-append-3-clause-refused c =
+returns-in_err-append-3-clause-refused _ c =
     let p = err_from_is_err_and c.from_residual-in_err-append-3.result c.from_residual-in_err-append-3.ensures.1 in
     let refused = c.in_err-append-3.ensures.refused in
     rw (p.1, p.2) (

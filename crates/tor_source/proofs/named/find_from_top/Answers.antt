@@ -1,6 +1,6 @@
 use Rattle.std.proofs.Common.{take, add-one}
 use Rattle.std.proofs.Math.Seq.{take-suc}
-use Rattle.tor_source.proofs.named.find.Goals as goal
+use Rattle.tor_source.proofs.named.find_from_top.Goals as goal
 
 pub files-preserved : goal.files-preserved
 files-preserved g c =
