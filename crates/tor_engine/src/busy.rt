@@ -1,11 +1,17 @@
 //! How many workers have something to do. No answer depends on it.
+ghost use Rattle.std.specs.Prelude.{◌≤◌};
+ghost use Rattle.tor_sums.specs.How.{IsHow, workers_of};
+
 use crate::present::length_told;
 use tor_plan::PlanUnit;
 use tor_sums::{How, MAX_WORKERS};
 
 /// By no more workers than there are units with a byte that is there, by the lengths that were told: one worker passes
 /// over any number of others, and what several of them found would be held more than once while it is joined.
-pub(crate) fn with_work(how: How, units: &[PlanUnit], told: &[Option<u64>]) -> How {
+pub(crate) fn with_work(how: How, units: &[PlanUnit], told: &[Option<u64>]) -> How
+    ensures fewer { workers_of result ≤ workers_of how }
+    ensures allowed { IsHow how → IsHow result }
+{
     let most = begun_units(units, told).max(1);
     match how {
         How::One => How::One,
