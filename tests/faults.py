@@ -64,17 +64,19 @@ def expect_faults(program, folder, words, place, rows):
         raise Failure('\n'.join(failures))
 
 
-# What the system is asked, call by call, to find the two files of PATH: what PATH is, three times, where it is held
-# open, and what each file is, by the descriptor of PATH.
-FOUND = 6
+# What the system is asked, call by call, to find the two files of PATH: what PATH is, twice; what is held open, and
+# what is at its place in /proc; what each file is; and at last what is held open, and what PATH is, once more.
+FOUND = 8
 
 
 def test_of_make(program, folder):
-    """Of a file below PATH the system is asked as it is found, and before each read, once it is open."""
+    """Of a file below PATH the system is asked as it is found, and before each read, once it is open. Calls are counted
+    for each thread: by one worker, both questions are of one thread."""
     files = lay_out(folder)
-    rows = [(f'statx:error={error}:when=1', 'E1 Read file 1 at 0')
-            for error in ['EIO', 'EACCES', 'ETIMEDOUT', 'EAGAIN', 'EINTR', 'ELOOP', 'EPERM', 'ENOENT']]
-    rows += [(f'pread64:error={error}:when=1', 'E1 Read file 1 at 0')
+    errors = ['EIO', 'EACCES', 'ETIMEDOUT', 'EAGAIN', 'EINTR', 'ELOOP', 'EPERM', 'ENOENT']
+    asked = [(f'statx:error={error}:when={when}', line)
+             for when, line in [(1, 'F4 System'), (2, 'E1 Read file 1 at 0')] for error in errors]
+    rows = [(f'pread64:error={error}:when=1', 'E1 Read file 1 at 0')
              for error in ['EIO', 'EAGAIN', 'EINTR', 'ETIMEDOUT', 'EISDIR']]
     rows += [(f'openat:error={error}:when=1', 'E1 Read file 1 at 0') for error in ['EACCES', 'EMFILE', 'ETIMEDOUT']]
     rows += [(f'openat:error={error}:when=1', 'E2 Changed file 1') for error in ['ENOENT', 'ENOTDIR']]
@@ -84,7 +86,7 @@ def test_of_make(program, folder):
         out = folder / 'out'
         out.write_bytes(b'old')
         words = ['make', '--name', 'f', *how, '--out', out, files]
-        expect_faults(program, folder, words, files / 'b', rows if not how else rows[8:])
+        expect_faults(program, folder, words, files / 'b', rows if how else asked + rows)
         expect_equal('the old file', b'old', out.read_bytes())
     expect_faults_as_found(program, folder, ['make', '--name', 'f', files])
 
@@ -96,7 +98,7 @@ def expect_faults_as_found(program, folder, words):
         for number in range(2, FOUND + 1) for error in ['EIO', 'ETIMEDOUT', 'EINTR', 'ELOOP']])
     expect_faults(program, folder, words, None, [
         (f'statx:error={error}:when={number}', 'F4 System')
-        for number in [FOUND - 1, FOUND] for error in ['EACCES', 'ENOENT']])
+        for number in range(FOUND - 3, FOUND + 1) for error in ['EACCES', 'ENOENT']])
     expect_faults(program, folder, words, None, [
         ('getdents64:error=EIO:when=1', 'F4 System'), ('getdents64:error=EIO:when=2', 'F4 System')])
 
@@ -104,7 +106,8 @@ def expect_faults_as_found(program, folder, words):
 def test_too_few_descriptors(program, folder):
     """A fault of the system, and not of a file that has none: the second line has the reason."""
     files = lay_out(folder)
-    told, _ = traced(program, ['make', '--explain', '--name', 'f', files], None, ['openat:error=EMFILE'], folder / 'log')
+    words = ['make', '--explain', '--name', 'f', files]
+    told, _ = traced(program, words, None, ['openat:error=EMFILE'], folder / 'log')
     if told.status == 127:
         raise Skipped('it needs a program that loads no library')
     line = b'F4 System\ntor: %s: Too many open files (os error 24)' % os.fsencode(files)
@@ -115,7 +118,8 @@ def test_of_streams(program, folder):
     """A file that is read once is opened when its turn comes: what cannot be, and what cannot be read, is told with how
     much of it came."""
     files = lay_out(folder)
-    rows = [(f'statx:error={error}:when=1', 'E1 Read file 1 at 0')
+    rows = [(f'statx:error={error}:when={when}', line)
+            for when, line in [(1, 'F4 System'), (2, 'E1 Read file 1 at 0')]
             for error in ['EIO', 'EACCES', 'ENOENT', 'ENOTDIR', 'ETIMEDOUT', 'EINTR', 'ELOOP']]
     rows += [(f'openat:error={error}:when=1', 'E1 Read file 1 at 0')
              for error in ['EACCES', 'EMFILE', 'ENOENT', 'ETIMEDOUT']]
@@ -154,18 +158,20 @@ def calls_upon(folder):
     return threads
 
 
-def expect_read_once(words, calls, lengths, found):
-    """That so many questions found the files, and then file after file was opened, each byte of it read once, at least
-    64 KiB at a time where there are so many, and closed. A file that was found is asked what it is once it is open, a
-    file by itself before."""
-    turns = [(name, list(turn)) for name, turn in itertools.groupby(calls[found:], lambda call: call.file)]
+def expect_read_once(words, calls, lengths, opened):
+    """That one question found each file, and then file after file was opened, each byte of it read once, at least
+    64 KiB at a time where there are so many, and closed. `opened` has the calls that open a file: one below PATH is
+    asked what it is once it is open, a file by itself before."""
+    found, calls = calls[:len(lengths)], calls[len(lengths):]
+    expect_equal(f'{words}: what found the files', [('statx', name) for name in lengths],
+                 [(call.name, call.file) for call in found])
+    turns = [(name, list(turn)) for name, turn in itertools.groupby(calls, lambda call: call.file)]
     expect_equal(f'{words}: the turns of files', list(lengths), [name for name, _ in turns])
     for name, turn in turns:
         reads = [call for call in turn if call.name == 'read']
         small = [call for call in reads if call.asked < 65536 and call.came > 3]
         if small:
             raise Failure(f'{words}\nwanted  of {name} at least 65536 at a time\ncame    {small[:9]}')
-        opened = ['statx', 'openat'] if found else ['openat', 'statx']
         expect_equal(f'{words}: calls upon {name}', [*opened, *['read'] * len(reads), 'close'],
                      [call.name for call in turn])
         expect_equal(f'{words}: bytes of {name}, and of its last read', (lengths[name], 0),
@@ -181,7 +187,8 @@ def expect_streams(program, folder, lengths, path):
         expect_equal(f'{words}: status', 0, told.status)
         threads = calls_upon(folder)
         expect_equal(f'{words}: threads that read', 1, len(threads))
-        expect_read_once(words, threads[0], lengths, 1 if path.is_file() else 0)
+        expect_read_once(words, threads[0], lengths,
+                         ['statx', 'openat'] if path.is_file() else ['openat', 'statx'])
 
 
 def test_reads_of_a_stream(program, folder):
@@ -216,6 +223,16 @@ def test_a_fault_ends_a_stream(program, folder):
             calls = [(call.name, call.file) for thread in calls_upon(folder) for call in thread]
             wanted = [('openat', 'b'), ('statx', 'b'), *[('read', 'b')] * 3, ('close', 'b')]
             expect_equal(f'{words}: the last calls', wanted, calls[-6:])
+
+
+def test_of_out_beside_a_file(program, folder):
+    """Whether FILE of `--out` is PATH itself, a file, the system has to tell."""
+    path, out = folder / 'abc', folder / 'out'
+    path.write_bytes(b'abc')
+    out.write_bytes(b'old')
+    expect_faults(program, folder, ['make', '--name', 'a', '--out', out, path], path, [
+        (f'statx:error={error}:when=2', 'F4 System') for error in ['EACCES', 'EIO', 'ETIMEDOUT', 'EINTR']])
+    expect_equal('the old file', b'old', out.read_bytes())
 
 
 def test_of_recheck(program, folder):
@@ -290,7 +307,7 @@ def test_of_inputs(program, folder):
 
 
 def test_of_reasons(program, folder):
-    """With `--explain` a second line has the system's reason of a read that failed in the middle, and of what it was."""
+    """With `--explain` a second line has the system's reason of a read that failed in the middle, and what was read."""
     torrent, files, eio = folder / 'torrent', folder / 'files', 'Input/output error (os error 5)'
     torrent.write_bytes(ABC)
     files.mkdir()
@@ -353,14 +370,14 @@ def test_places_of_reads(program, folder):
 
 
 def test_what_is_asked_before_a_refusal(program, folder):
-    """A refusal of the order comes before a file is opened. What was asked to find it names the descriptor of PATH."""
+    """A refusal of the order comes before a file is opened: it was asked what it is, once, to find it."""
     files = lay_out(folder)
     for words in [['--piece-length', '5'], ['--how', 'halves', '--workers', '65'], ['--span', '3'],
                   ['--how', 'board', '--workers', '65'], ['--how', 'streams', '--workers', '65'],
                   ['--how', 'streams', '--piece-length', '1073741824']]:
         words = ['make', '--name', 'f', *words, files]
         _, log = traced(program, words, files / 'a', [], folder / 'log')
-        expect_equal(f'{words}: calls upon a file', 0, len(log.splitlines()))
+        expect_equal(f'{words}: calls upon a file', ['statx'], [line.split('(')[0] for line in log.splitlines()])
     words = ['make', '--name', '..', files]
     _, log = traced(program, words, files, [], folder / 'log')
     expect_equal(f'{words}: calls upon PATH', 0, len(log.splitlines()))

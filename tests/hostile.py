@@ -27,8 +27,8 @@ Answer = namedtuple('Answer', 'status out err kept')
 
 
 class Case:
-    """A run: its words, the right answer, that of a file at PATH which the system does not tell of, the file that is its
-    input, and what the places are that it asks for."""
+    """A run: its words, the right answer, that of a file at PATH which the system does not tell of, the file that is
+    its input, and what the places are that it asks for."""
 
     def __init__(self, words, right, given=os.devnull, path=None, files=(), torrent=None, out=None, untold=None):
         self.words, self.given, self.path, self.torrent, self.out = [*map(str, words)], str(given), path, torrent, out

@@ -313,11 +313,15 @@ def alike(letter):
                                                       for number in range(20)), ((b'd', b'g'), letter)]))
 
 
-def lay_out_alike(folder, letter):
-    for path, content in alike(letter):
+def lay_out_files(folder, files):
+    for path, content in files:
         target = folder / os.fsdecode(b'/'.join(path))
         target.parent.mkdir(parents=True, exist_ok=True)
         target.write_bytes(content)
+
+
+def lay_out_alike(folder, letter):
+    lay_out_files(folder, alike(letter))
 
 
 def exchange_for_ever(one, other, pause):
@@ -385,6 +389,60 @@ def test_a_link_that_takes_the_place_of_a_file_or_a_folder(program, folder):
     came = exchanges(program, folder, 36 * 12)
     if not came['F2'] or not came['']:
         raise Failure(f'no exchange was met, or each time one: {came}')
+
+
+def expect_torrent_of_one(refuser, place, states, act, before):
+    """Does it while each call of `make` is held in turn. What comes is the torrent of one of these states, or a fault;
+    that of the first state and a fault both come."""
+    for kind, way in zip(KINDS, [('one', 1), ('board', 2), ('streams', 2)]):
+        words = make_words(place, kind, way)
+        right = [done(reference.make(files, Order(kind, False, b'f', BLOCK, None, False, 'one', 1, 1)))
+                 for files in states]
+        ends = collections.Counter()
+        for came in refuser.each(words, Meet('solr', does='hold'), act=lambda met: act(), before=before):
+            told = came[:3]
+            if told not in right and not (MET.fullmatch(came.err) and came.status in (1, 3) and not came.out):
+                raise Failure(f'run     {shown_words(words)}\nit leads elsewhere at {came.met}\ncame    {told}')
+            ends[right.index(told) if told in right else 'fault'] += 1
+        if not ends[0] or not ends['fault']:
+            raise Failure(f'{shown_words(words)}: never the first state, or no fault: {ends}')
+
+
+def test_a_link_as_path_that_leads_elsewhere(program, folder):
+    """PATH is a link, which leads to another folder from each moment in turn on: one with other bytes, and a file
+    more."""
+    states = [tuple(((name,), letter * 20_000) for name in names)
+              for names, letter in [((b'a', b'c'), b'i'), ((b'a', b'b', b'c'), b'o')]]
+    for name, files in zip(['first', 'second'], states):
+        lay_out_files(folder / name, files)
+
+    def lead_to(name):
+        link = folder / 'link'
+        link.symlink_to(name)
+        os.replace(link, folder / 'f')
+
+    expect_torrent_of_one(Refuser(program, folder), folder / 'f', states, lambda: lead_to('second'),
+                          lambda: lead_to('first'))
+
+
+def test_a_folder_that_becomes_a_link(program, folder):
+    """A folder below PATH becomes a link to one outside, with files of the same names and lengths, from each moment in
+    turn on: no byte from there comes."""
+    below, aside = folder / 'in' / 'd', folder / 'aside'
+    for name, letter in [('in', b'i'), ('out', b'o')]:
+        lay_out_files(folder / name, [((b'd', file), letter * 20_000) for file in (b'a', b'c')])
+
+    def become_link():
+        os.rename(below, aside)
+        below.symlink_to(folder / 'out' / 'd')
+
+    def restore():
+        if below.is_symlink():
+            below.unlink()
+            os.rename(aside, below)
+
+    states = [tuple(((b'd', file), b'i' * 20_000) for file in (b'a', b'c'))]
+    expect_torrent_of_one(Refuser(program, folder), folder / 'in', states, become_link, restore)
 
 
 if __name__ == '__main__':

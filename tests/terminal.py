@@ -445,5 +445,6 @@ def test_json_on_a_terminal(program, folder):
 
 def test_names_in_faults_on_a_terminal(program, folder):
     place = folder / 'no\u202efile\x9b'
-    wanted = b'tor: read fault\ntor: ' + without_hidden(os.fsencode(place)) + b': No such file or directory (os error 2)\n'
+    reason = b': No such file or directory (os error 2)\n'
+    wanted = b'tor: read fault\ntor: ' + without_hidden(os.fsencode(place)) + reason
     expect_equal('both lines', (3, wanted), at_terminal(program, ['check', place]))
