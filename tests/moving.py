@@ -425,6 +425,77 @@ def test_a_link_as_path_that_leads_elsewhere(program, folder):
                           lambda: lead_to('first'))
 
 
+def lead(folder, name):
+    """The link `f` leads to this folder."""
+    link = folder / 'link'
+    link.symlink_to(name)
+    os.replace(link, folder / 'f')
+
+
+def test_a_link_as_path_that_leads_elsewhere_for_some_calls(program, folder):
+    """PATH is a link, which leads to another folder from each moment in turn on, for two to four calls. No folder there
+    is listed: what comes is the torrent of the first one, F4, or, if a file was looked for meanwhile, its fault."""
+    files = {name: tuple(((b'd', file), name * 2_000) for file in names)
+             for name, names in [(b'first', (b'a',)), (b'second', (b'a', b'b'))]}
+    for name, listed in files.items():
+        lay_out_files(folder / os.fsdecode(name), listed)
+    listing = folder / 'listing'
+    listing.write_bytes(b'd/a\0')
+    right = done(reference.make(files[b'first'], Order('v2', False, b'f', BLOCK, None, False, 'one', 1, 1)))
+    refuser = Refuser(program, folder)
+    for more in [], ['--files-from', str(listing)]:
+        words = [*make_words(folder / 'f', 'v2', ('one', 1)), *more]
+        ends = collections.Counter(end for width in range(2, 5)
+                                   for end in ends_elsewhere(refuser, folder, words, width, right))
+        if not ends['right'] or not ends[b'F4']:
+            raise Failure(f'{shown_words(words)}: never the torrent, or never F4: {ends}')
+
+
+def ends_elsewhere(refuser, folder, words, width, right):
+    """How each run ends during which `f` leads to the second folder for so many calls."""
+    for first in range(1, ALL_LATER):
+        lead(folder, 'first')
+        count = 0
+
+        def act(_met):
+            nonlocal count
+            count += 1
+            if count in (1, width + 1):
+                lead(folder, 'second' if count == 1 else 'first')
+
+        came = refuser.run(words, Meet('sol', first, first + width, 'hold'), act=act)
+        if not came.met:
+            return
+        told = came[:3]
+        is_of_file = any(met.place.endswith('/a') for met in came.met)
+        is_fault = MET.fullmatch(came.err) and not came.out
+        if told != right and not (is_fault and (is_of_file or b' F4 ' in came.err)):
+            raise Failure(f'run     {shown_words(words)}\nit leads elsewhere at {came.met}\ncame    {told}')
+        yield 'right' if told == right else came.err[5:7]
+
+
+def test_a_link_as_path_that_leads_elsewhere_while_files_are_looked_for(program, folder):
+    """With `--files-from`, PATH is a link that leads to another folder from each moment in turn on, until the last file
+    was looked for: F4."""
+    for name, letter in [('first', b'i'), ('second', b'o')]:
+        lay_out_files(folder / name, [((file,), letter * 2_000) for file in (b'a', b'c')])
+    listing = folder / 'listing'
+    listing.write_bytes(b'a\0c\0')
+    words = [*make_words(folder / 'f', 'v2', ('one', 1)), '--files-from', str(listing)]
+    refuser = Refuser(program, folder)
+    lead(folder, 'first')
+    told = refuser.run(words, Meet('so', 1, ALL_LATER, 'tell')).met
+    opens = next(at for at, met in enumerate(told) if met.kind == 'o' and met.place.endswith('/f/a'))
+    last = max(at for at, met in enumerate(told[:opens]) if met.kind == 's' and met.place.endswith('/f/c'))
+    # The folder is judged first, and then opened: what it leads to by then is what is listed.
+    begins = next(at for at, met in enumerate(told) if met.place.endswith('/f/a'))
+    for at in range(begins, last + 1):
+        lead(folder, 'first')
+        came = refuser.run(words, Meet('so', at + 1, at + 1, 'hold'), act=lambda met: lead(folder, 'second'))
+        if not came.err.startswith(b'tor: F4 System') or came.out:
+            raise Failure(f'run     {shown_words(words)}\nit leads elsewhere at {came.met}\ncame    {came[:3]}')
+
+
 def test_a_folder_that_becomes_a_link(program, folder):
     """A folder below PATH becomes a link to one outside, with files of the same names and lengths, from each moment in
     turn on: no byte from there comes."""

@@ -105,17 +105,19 @@ def read_met(line):
 
 
 def held(words, child, go, told, act):
-    """Waits for a call that is held, calls `act`, and lets it go on: that call, or none."""
+    """Waits for each call that is held, calls `act`, and lets it go on: those calls."""
+    met = []
     try:
-        if not select.select([told], [], [], TIME_LIMIT)[0]:
-            hangs(words, child)
-        line = os.read(told, 8192)
-        if not line:
-            return []
-        met = read_met(line.rstrip(b'\n'))
-        act(met)
-        os.write(go, b'g')
-        return [met]
+        while True:
+            if not select.select([told], [], [], TIME_LIMIT)[0]:
+                hangs(words, child)
+            lines = os.read(told, 8192).splitlines()
+            if not lines:
+                return met
+            for line in lines:
+                met.append(read_met(line))
+                act(met[-1])
+                os.write(go, b'g')
     finally:
         os.close(told)
         os.close(go)

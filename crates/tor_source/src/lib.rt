@@ -30,8 +30,8 @@
 //! `walk.rt` finds the files below a folder, `named.rt` those of a list, both into `found.rt`; `folder_names.rt` reads
 //! the names in a folder, and `open_folders.rt` holds folders open meanwhile. `unlinked.rt` has a source that follows
 //! no link, and tells how its files stand. `places.rt` has the places of files, each written when it is asked for, into
-//! `place.rt`; `regular.rt` reads what stands at a place, `listed_file.rt` a file that has to be as it was listed, and
-//! `same_file.rt` tells whether two places have one file.
+//! a `Place` (`place.rt`); `regular.rt` reads what stands at a place, `listed_file.rt` a file that has to be as it was
+//! listed, and `same_file.rt` tells whether two places have one file.
 #![tactic(auto)]
 
 mod buffer;

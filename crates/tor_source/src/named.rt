@@ -48,7 +48,8 @@ pub(crate) enum Sought {
     NotTaken(Refusal),
 }
 
-/// What is found of these files below a folder. A folder that leads to the file before, too, is not asked for again.
+/// What is found of these files below a folder, which has to be at its place still when all were looked for. A folder
+/// that leads to the file before, too, is not asked for again.
 pub(crate) fn find<R: Files>(
     rt: &R,
     alloc: Global,
@@ -60,7 +61,9 @@ where
     ensures { IfOk result (HasLookedFor files.now) }
 {
     let mut leading = LeadingFolders::at_top(rt, alloc, root)?;
-    find_from_top(rt, alloc, &mut leading, files)
+    let found = find_from_top(rt, alloc, &mut leading, files)?;
+    leading.open.judge_top(rt)?;
+    Ok(found)
 }
 
 // What is found of these files, which are looked for from the top folder on.
@@ -191,7 +194,7 @@ where
         if !metadata.is_dir() {
             return Ok(Some(Refusal::NotRegular(kind_of(&metadata))));
         }
-        leading.open.go_into(rt, alloc, place.as_str(), &metadata)?;
+        leading.open.go_into(rt, alloc, above, &metadata)?;
         leading.names.push(folders[depth].copy(alloc)?)?;
     }
     Ok(None)

@@ -1,5 +1,6 @@
-//! The folders on the way to what is listed, held open. What is in one of them is asked for by its descriptor, so that
-//! no link that takes the place of a folder meanwhile leads out of it.
+//! The folders on the way to what is listed, held open. Each is entered by the descriptor of the one before, and what
+//! is in it is asked for by its own, so that no link that takes the place of a folder meanwhile leads out of it. What
+//! is in the top one is asked for at its own place, but a folder there is entered by the descriptor.
 ghost use Rattle.std.specs.Prelude.{◌≤◌, vec_len};
 
 use crate::faults::{ScanFault, is_absence};
@@ -104,36 +105,52 @@ where
         if names.len() == 1 && place.write(without_slash(&self.root), names).is_ok() {
             return Ok(());
         }
+        self.write_held(names, place)
+    }
+
+    // Writes the place that what these names lead to has in the last folder that is held open.
+    fn write_held(&self, names: &[Name], place: &mut Place) -> io::Result<()> {
         let folder = self.below.last().unwrap_or(&self.top);
         let (_, names) = names.split_at(self.below.len().min(names.len()));
         place.write(&folder.place, names)
     }
 
-    /// Goes into the folder at a place that was asked for, and has to be the one of which this was told then; and its
-    /// names as the system lists them.
+    /// Goes into the folder to which these names lead, which has to be the one of which this was told; and its names as
+    /// the system lists them.
     pub(crate) fn enter(
         &mut self,
         rt: &R,
         alloc: Global,
-        place: &str,
+        names: &[Name],
         told: &Metadata,
     ) -> io::Result<R::Dir> {
-        let is_held = self.go_into(rt, alloc, place, told)?;
+        let mut place = Place::new();
+        self.write_held(names, &mut place)?;
+        let is_held = self.go_to(rt, alloc, place.as_str(), told)?;
         match self.below.last() {
             Some(folder) if is_held => names_in(rt, alloc, &folder.place),
-            _ => rt.open_dir(place),
+            _ => rt.open_dir(place.as_str()),
         }
     }
 
-    /// Holds the folder at a place open, in the last one that is, if it is not deeper than a file may be; and whether
-    /// it does.
+    /// Holds the folder open to which these names lead, which has to be the one of which this was told, if it is not
+    /// deeper than a file may be.
     pub(crate) fn go_into(
         &mut self,
         rt: &R,
         alloc: Global,
-        place: &str,
+        names: &[Name],
         told: &Metadata,
-    ) -> io::Result<bool> {
+    ) -> io::Result<()> {
+        let mut place = Place::new();
+        self.write_held(names, &mut place)?;
+        self.go_to(rt, alloc, place.as_str(), told)?;
+        Ok(())
+    }
+
+    // Holds the folder at a place open, in the last one that is, if it is not deeper than a file may be; and whether it
+    // does.
+    fn go_to(&mut self, rt: &R, alloc: Global, place: &str, told: &Metadata) -> io::Result<bool> {
         let descriptors = match &self.descriptors {
             Some(descriptors) if self.below.len() < MAX_OPEN => descriptors,
             _ => return Ok(false),

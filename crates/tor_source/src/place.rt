@@ -15,7 +15,7 @@ use tor_tree::Name;
 /// would take longer than many an answer.
 const MAX_SHORT: usize = 255;
 
-/// The number of the system's fault for a longer one (Linux, ENAMETOOLONG).
+/// The number of the system's fault for one that is longer than it takes (Linux, ENAMETOOLONG).
 const NAME_TOO_LONG: i32 = 36;
 
 /// A place that is no longer than the system takes. Contracts see its bytes.

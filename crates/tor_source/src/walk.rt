@@ -204,7 +204,7 @@ where
     open.write_place(names, &mut place)?;
     let metadata = rt.symlink_metadata(place.as_str())?;
     if metadata.is_dir() {
-        let folder = open.enter(rt, alloc, place.as_str(), &metadata)?;
+        let folder = open.enter(rt, alloc, names, &metadata)?;
         return Ok(Standing::Folder(rising_names(alloc, folder)?));
     }
     if !metadata.is_file() {
