@@ -233,6 +233,22 @@ def test_units_of_1_gib(program, folder):
         expect(program, [*words, str(p), '--span', str(span), path], refused('M3 Span'))
 
 
+def test_short_files_in_units_of_256_mib(program, folder):
+    """Short files beside a buffer that is so long that the thread which reads waits until each is given back."""
+    if free_memory() < GIB:
+        raise Skipped('it needs a GiB of memory')
+    files = [((b'%d' % i,), b'%d' % i * 1000) for i in range(5)]
+    place = folder / 'files'
+    place.mkdir()
+    for (name,), content in files:
+        (place / os.fsdecode(name)).write_bytes(content)
+    piece_length = 1 << 28
+    wanted = make(files, order('v2', False, piece_length), {})
+    words = ['make', '--name', 'f', '--kind', 'v2', '--piece-length', str(piece_length), '--how', 'streams', '--span',
+             '1']
+    expect(program, [*words, str(place)], done(wanted))
+
+
 def crowd(count):
     """Paths of so many files in a few folders, some under names of 255 bytes."""
     paths = [(b'%06d' % i,) if i % 7 else (b'%06d' % i + b'n' * 249,) for i in range(count - 100)]

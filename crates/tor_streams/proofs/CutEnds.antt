@@ -5,13 +5,14 @@ use Rattle.std.proofs.lemmas.Grind.{flat_map-append}
 use Rattle.std.proofs.lemmas.List.{length-map, nil_from_length}
 use Rattle.std.proofs.lemmas.List.FromFn.{length-range_with_len}
 use Rattle.std.specs.List.{flat_map, range_with_len}
-use Rattle.tor_lane.specs.Lane.{IsOpen, put_by}
+use Rattle.tor_lane.specs.Lane.{IsOpen}
 use Rattle.tor_tree.specs.Kinds.{has_v2}
 use Rattle.tor_v1.proofs.ProvedLaws.{pieces_nil}
 use Rattle.tor_streams.specs.declared.chunking.Chunking.{Chunking}
 use Rattle.tor_streams.specs.declared.cutter.Cutter.{Cutter}
+use Rattle.tor_streams.specs.declared.pairs.Pairs.{Pairs}
 use Rattle.tor_streams.specs.steps.Cuts.{HasCut, HasPut, IsCutOff, PutsHeld, bare_cuts, closed_cuts, cut_of, cuts_held}
-use Rattle.tor_streams.specs.steps.Cuts.{cuts_before_end, cuts_of_content, ending_in, open_text, runs_of}
+use Rattle.tor_streams.specs.steps.Cuts.{cuts_before_end, cuts_of_content, ending_in, given_to, open_text, runs_of}
 use Rattle.tor_streams.specs.steps.Cuts.{units_held, units_of, zeros_between}
 use Rattle.tor_streams.proofs.CutLists.{held_closes, held_ends}
 use Rattle.tor_streams.proofs.Cutting.{none_of}
@@ -56,18 +57,18 @@ module _ (chunking : Chunking) (some : 0 < chunking.size) where
 
   -- one that has bytes, where each is cut by itself
   pub content_ends : (contents : List (List ℕ)) (content : List ℕ) (old new : Cutter) → has_v2 chunking.kind ≡ true
-      → 0 < length content → Off contents content old → new.feeder ≡ old.feeder → new.held ≡ old.held
+      → 0 < length content → Off contents content old → new.pairs ≡ old.pairs → new.held ≡ old.held
       → new.next ≡ old.next → new.buffer ≡ old.buffer → new.filled ≡ old.filled
       → new.zeros ≡ zeros_between chunking.kind chunking.piece_length (length content)
       → Has (contents ++ content ∷ []) [] new
-  content_ends contents content old new trees more off feeder held next buffer filled zeros =
+  content_ends contents content old new trees more off pairs held next buffer filled zeros =
       let split = some_run chunking.size some content more in
       let run = split.0 in
       let runs = split.1.0 in
       let z = zeros_between chunking.kind chunking.piece_length (length content) in
       let before = closed_cuts chunking contents in
       let own = ap (runs_of chunking.size) (open_with_trees contents content trees) ∙ split.1.1 in
-      let closes = held_closes (map cut_of (put_by old.feeder)) before old.held z old.zeros run runs
+      let closes = held_closes (map cut_of (given_to old.pairs)) before old.held z old.zeros run runs
       (λ none. ap (map cut_of) (off.begun none)) (off.cuts ∙ ap (λ xs. before ++ bare_cuts xs) own) in
       record {
         buffer = ap vec_len buffer ∙ off.buffer;
@@ -76,18 +77,18 @@ module _ (chunking : Chunking) (some : 0 < chunking.size) where
         whole = (0, none_of chunking.size);
         text = ap (λ n. take n new.buffer.items) (filled ∙ off.filled)
             ∙ sym (open_with_trees (contents ++ content ∷ []) [] trees);
-        cuts = ap (λ f. map cut_of (put_by f) ++ cuts_held new.held new.zeros) feeder
-            ∙ ap (λ h. map cut_of (put_by old.feeder) ++ cuts_held h new.zeros) held
-            ∙ ap (λ n. map cut_of (put_by old.feeder) ++ cuts_held old.held n) zeros ∙ closes
+        cuts = ap (λ f. map cut_of (given_to f) ++ cuts_held new.held new.zeros) pairs
+            ∙ ap (λ h. map cut_of (given_to old.pairs) ++ cuts_held h new.zeros) held
+            ∙ ap (λ n. map cut_of (given_to old.pairs) ++ cuts_held old.held n) zeros ∙ closes
             ∙ ap (λ xs. before ++ ending_in z (bare_cuts xs)) (sym split.1.1)
             ∙ sym (closed_more contents content trees) ∙ sym (append-nil _)
             ∙ ap (λ xs. closed_cuts chunking (contents ++ content ∷ []) ++ bare_cuts xs)
             (sym (pieces_nil chunking.size some));
-        units = ap (λ f. units_of (put_by f) ++ units_held new.held) feeder
-            ∙ ap (λ h. units_of (put_by old.feeder) ++ units_held h) held ∙ off.units
+        units = ap (λ f. units_of (given_to f) ++ units_held new.held) pairs
+            ∙ ap (λ h. units_of (given_to old.pairs) ++ units_held h) held ∙ off.units
             ∙ ap (range_with_len 0) (sym next);
-        opened = subst IsOpen (sym feeder) off.opened;
-        begun = λ none. ap put_by feeder ∙ off.begun (sym held ∙ none);
+        opened = subst (λ (p : Pairs). IsOpen p.feeder) (sym pairs) off.opened;
+        begun = λ none. ap given_to pairs ∙ off.begun (sym held ∙ none);
       }
 
   -- one that has none, or where all are cut as one
@@ -142,19 +143,19 @@ module _ (chunking : Chunking) (some : 0 < chunking.size) where
 
   -- with the zeros that were to follow what is held, or with none
   end_cuts : (tail : Bool) (contents : List (List ℕ)) (old : Cutter) → Off contents [] old
-      → map cut_of (put_by old.feeder) ++ cuts_held old.held (cond tail old.zeros 0)
+      → map cut_of (given_to old.pairs) ++ cuts_held old.held (cond tail old.zeros 0)
       ≡ cond tail (cuts_before_end chunking contents) (ending_in 0 (cuts_before_end chunking contents))
   end_cuts true contents old off = off.cuts
   end_cuts false contents old off =
-      held_ends (map cut_of (put_by old.feeder)) old.held 0 old.zeros (λ none. ap (map cut_of) (off.begun none))
+      held_ends (map cut_of (given_to old.pairs)) old.held 0 old.zeros (λ none. ap (map cut_of) (off.begun none))
       ∙ ap (ending_in 0) off.cuts
 
   pub all_end : (contents : List (List ℕ)) (old new : Cutter) → Off contents [] old
-      → PutsHeld (cond chunking.tail old.zeros 0) old new → HasPut chunking contents (put_by new.feeder)
+      → PutsHeld (cond chunking.tail old.zeros 0) old new → HasPut chunking contents (given_to new.pairs)
   all_end contents old new off puts = record {
     cuts = puts.cuts ∙ end_cuts chunking.tail contents old off;
     units =
         let all = puts.units ∙ off.units in
         all ∙ ap (range_with_len 0) (sym (length-range_with_len 0 old.next) ∙ sym (ap length all)
-        ∙ length-map (put_by new.feeder) (λ chunk. chunk.unit));
+        ∙ length-map (given_to new.pairs) (λ chunk. chunk.unit));
   }

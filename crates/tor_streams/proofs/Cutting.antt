@@ -4,15 +4,16 @@ use Rattle.std.proofs.Common.{map, take, None, arith, refl, ap, ◌∙◌, sym, 
 use Rattle.std.proofs.Common.{length-append, length-take, mul-pos, vec_len}
 use Rattle.std.proofs.lemmas.List.{map-append}
 use Rattle.std.specs.List.{flat_map, range_with_len}
-use Rattle.tor_lane.specs.Lane.{FeedsLaneOf, IsOpen, put_by}
+use Rattle.tor_lane.specs.Lane.{FeedsLaneOf, IsOpen}
 use Rattle.tor_lane.specs.declared.feeder.Feeder.{Feeder}
 use Rattle.tor_tree.specs.Kinds.{has_v2}
 use Rattle.tor_tree.specs.declared.kinds.Kind.{Kind}
 use Rattle.tor_v1.proofs.ProvedLaws.{pieces_nil}
 use Rattle.tor_streams.specs.declared.chunking.Chunking.{Chunking}
 use Rattle.tor_streams.specs.declared.cutter.Cutter.{Cutter}
+use Rattle.tor_streams.specs.declared.pairs.Pairs.{Pairs}
 use Rattle.tor_streams.specs.steps.Cuts.{CutsMore, HasCut, IsChunking, IsCutOff, bare_cuts, closed_cuts}
-use Rattle.tor_streams.specs.steps.Cuts.{cut_of, cuts_held, open_text, runs_of, units_held, units_of}
+use Rattle.tor_streams.specs.steps.Cuts.{cut_of, cuts_held, given_to, open_text, runs_of, units_held, units_of}
 use Rattle.tor_sums.proofs.FileHashes.{some_piece}
 use Rattle.tor_streams.proofs.CutLists.{range_more, runs_more}
 
@@ -71,14 +72,14 @@ module _ (chunking : Chunking) (some : 0 < chunking.size) where
 
   -- what waits is cut
   module _ (contents : List (List ℕ)) (current : List ℕ) (old new : Cutter) (has : Has contents current old)
-      (more : CutsMore old new) (still : IsOpen new.feeder) (waits : 0 < old.filled) where
+      (more : CutsMore old new) (still : IsOpen new.pairs.feeder) (waits : 0 < old.filled) where
     abbrev run : List ℕ
     run = take old.filled old.buffer.items
 
     long : length run ≡ old.filled
     long = length-take old.filled old.buffer.items ∙ omega (arith, has.filled, has.buffer, old.buffer.ok.0)
 
-    cuts_now : map cut_of (put_by new.feeder) ++ cuts_held new.held new.zeros
+    cuts_now : map cut_of (given_to new.pairs) ++ cuts_held new.held new.zeros
         ≡ closed_cuts chunking contents ++ bare_cuts (runs_of chunking.size (has.cut ++ run))
     cuts_now =
         let before = closed_cuts chunking contents in
@@ -88,7 +89,7 @@ module _ (chunking : Chunking) (some : 0 < chunking.size) where
         ∙ ap bare_cuts (sym (runs_more chunking.size has.whole.0 has.cut run some has.whole.1
         (omega (arith, waits, long)) (omega (arith, has.filled, long)))))
 
-    units_now : units_of (put_by new.feeder) ++ units_held new.held ≡ range_with_len 0 new.next
+    units_now : units_of (given_to new.pairs) ++ units_held new.held ≡ range_with_len 0 new.next
     units_now =
         more.units ∙ ap (λ xs. xs ++ old.next ∷ []) has.units ∙ sym (range_more old.next)
         ∙ ap (range_with_len 0) (sym more.next)
@@ -120,11 +121,11 @@ module _ (chunking : Chunking) (some : 0 < chunking.size) where
 
   -- bytes came
   pub bytes_came : (contents : List (List ℕ)) (current bytes : List ℕ) (old new : Cutter) → Has contents current old
-      → new.feeder ≡ old.feeder → new.held ≡ old.held → new.zeros ≡ old.zeros → new.next ≡ old.next
+      → new.pairs ≡ old.pairs → new.held ≡ old.held → new.zeros ≡ old.zeros → new.next ≡ old.next
       → vec_len new.buffer ≡ vec_len old.buffer → new.filled ≤ vec_len new.buffer
       → take new.filled new.buffer.items ≡ take old.filled old.buffer.items ++ bytes
       → Has contents (current ++ bytes) new
-  bytes_came contents current bytes old new has feeder held zeros next long within came = record {
+  bytes_came contents current bytes old new has pairs held zeros next long within came = record {
     buffer = long ∙ has.buffer;
     filled = omega (arith, within, long, has.buffer);
     cut = has.cut;
@@ -132,14 +133,14 @@ module _ (chunking : Chunking) (some : 0 < chunking.size) where
     text = ap (λ xs. has.cut ++ xs) came
         ∙ sym (append_assoc has.cut (take old.filled old.buffer.items) bytes)
         ∙ ap (λ xs. xs ++ bytes) has.text ∙ open_more chunking.kind contents current bytes;
-    cuts = ap (λ f. map cut_of (put_by f) ++ cuts_held new.held new.zeros) feeder
-        ∙ ap (λ h. map cut_of (put_by old.feeder) ++ cuts_held h new.zeros) held
-        ∙ ap (λ n. map cut_of (put_by old.feeder) ++ cuts_held old.held n) zeros ∙ has.cuts;
-    units = ap (λ f. units_of (put_by f) ++ units_held new.held) feeder
-        ∙ ap (λ h. units_of (put_by old.feeder) ++ units_held h) held ∙ has.units
+    cuts = ap (λ f. map cut_of (given_to f) ++ cuts_held new.held new.zeros) pairs
+        ∙ ap (λ h. map cut_of (given_to old.pairs) ++ cuts_held h new.zeros) held
+        ∙ ap (λ n. map cut_of (given_to old.pairs) ++ cuts_held old.held n) zeros ∙ has.cuts;
+    units = ap (λ f. units_of (given_to f) ++ units_held new.held) pairs
+        ∙ ap (λ h. units_of (given_to old.pairs) ++ units_held h) held ∙ has.units
         ∙ ap (range_with_len 0) (sym next);
-    opened = subst IsOpen (sym feeder) has.opened;
-    begun = λ none. ap put_by feeder ∙ has.begun (sym held ∙ none);
+    opened = subst (λ (p : Pairs). IsOpen p.feeder) (sym pairs) has.opened;
+    begun = λ none. ap given_to pairs ∙ has.begun (sym held ∙ none);
   }
 
   -- ---- where nothing was read
@@ -149,7 +150,7 @@ module _ (chunking : Chunking) (some : 0 < chunking.size) where
   same_either false x = refl
 
   pub none_read : (cutter : Cutter) → vec_len cutter.buffer ≡ chunking.size → cutter.filled ≡ 0 → cutter.held ≡ None
-      → cutter.next ≡ 0 → put_by cutter.feeder ≡ [] → IsOpen cutter.feeder → Has [] [] cutter
+      → cutter.next ≡ 0 → given_to cutter.pairs ≡ [] → IsOpen cutter.pairs.feeder → Has [] [] cutter
   none_read cutter is_long filled held next put still = record {
     buffer = is_long;
     filled = omega (arith, filled);

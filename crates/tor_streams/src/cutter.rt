@@ -11,6 +11,7 @@ ghost use Rattle.tor_streams.specs.steps.Cuts.{EndsReading, IsChunking, zeros_be
 
 use crate::chunking::Chunking;
 use crate::filling::{Stop, fill_from, stop_after};
+use crate::pairs::Pairs;
 use crate::spares::Spares;
 use std::alloc::{AllocError, Global};
 use std::io::Read;
@@ -25,7 +26,7 @@ use tor_v1::padding_length;
 /// whether a later content has a byte, since padding goes between two of them, and after the last only as a tail.
 #[derive(Drop)]
 pub(crate) struct Cutter {
-    pub(crate) feeder: Feeder,
+    pub(crate) pairs: Pairs,
     spares: Spares,
     // As long as a unit; its front waits to be cut.
     buffer: Vec<u8>,
@@ -51,11 +52,13 @@ impl Cutter {
         requires cut { IsChunking chunking }
         requires open { IsOpen feeder × (put_by feeder ≡ []) }
         ensures ready { IfOk result (IsReady chunking []) }
-        ensures feeder { IfOk result (λ cutter. cutter.feeder ≡ feeder) }
+        ensures feeder { IfOk result (λ cutter. cutter.pairs.feeder ≡ feeder) }
+        ensures unit { IfOk result (λ cutter. cutter.pairs.unit ≡ chunking.size) }
     {
         let buffer = zeros(alloc, chunking.size as usize)?;
+        let pairs = Pairs::new(feeder, buffer.len());
         Ok(Cutter {
-            feeder,
+            pairs,
             spares,
             buffer,
             filled: 0,
@@ -104,7 +107,7 @@ impl Cutter {
     // Reads until the buffer is full or the reader is at its end, and tells how many bytes came.
     fn fill<R: Read>(&mut self, reader: &mut R, room: u64) -> Result<usize, FillFault>
         requires { self.old.filled ≤ vec_len self.old.buffer }
-        ensures feeder { self.new.feeder ≡ self.old.feeder }
+        ensures pairs { self.new.pairs ≡ self.old.pairs }
         ensures kept { (self.new.held ≡ self.old.held) × (self.new.zeros ≡ self.old.zeros)
             × (self.new.next ≡ self.old.next) × (vec_len self.new.buffer ≡ vec_len self.old.buffer) }
         ensures came { IfOk result (λ count. (bytes : List ℕ)
@@ -129,7 +132,7 @@ impl Cutter {
     // Puts what was held before, and cuts what waits in the buffer; so not both are held beside it.
     fn cut<T: Wait>(&mut self, rt: &T, alloc: Global) -> Result<(), AllocError>
         requires within { self.old.filled ≤ vec_len self.old.buffer }
-        requires open { IsOpen self.old.feeder }
+        requires open { IsOpen self.old.pairs.feeder }
         ensures cut { OnOk result (CutsMore self.old self.new) }
         ensures lane { KeepsLane self.old self.new }
     {
@@ -149,13 +152,14 @@ impl Cutter {
     }
 
     // What waits. A buffer that is full is handed over as it is, in exchange for another; for what is copied instead,
-    // one that was given back is let go, so that no more is held. Both may wait for what workers have, and what was
-    // held back before was put, so that they have all that is waited for.
+    // one that was given back is let go, so that no more is held. Both may wait for what workers have. What was held
+    // before was put, so that they have all that is waited for; a short chunk that waits in `pairs` is too little to
+    // wait for.
     fn take_waiting<T: Wait>(&mut self, rt: &T, alloc: Global) -> Result<Vec<u8>, AllocError>
         requires within { self.old.filled ≤ vec_len self.old.buffer }
         ensures bytes { IfOk result (λ bytes. bytes.items ≡ take self.old.filled self.old.buffer.items) }
         ensures length { vec_len self.new.buffer ≡ vec_len self.old.buffer }
-        ensures kept { (self.new.feeder ≡ self.old.feeder) × (self.new.held ≡ self.old.held)
+        ensures kept { (self.new.pairs ≡ self.old.pairs) × (self.new.held ≡ self.old.held)
             × (self.new.zeros ≡ self.old.zeros) × (self.new.next ≡ self.old.next) }
     {
         if self.filled < self.buffer.len() {
@@ -169,13 +173,13 @@ impl Cutter {
 
     // Puts what is held, with so many zeros after it.
     fn put_held<T: Wait>(&mut self, rt: &T, zeros: u64)
-        requires { IsOpen self.old.feeder }
+        requires { IsOpen self.old.pairs.feeder }
         ensures put { PutsHeld zeros self.old self.new }
         ensures lane { KeepsLane self.old self.new }
     {
         if let Some(mut chunk) = self.held.take() {
             chunk.zeros = zeros;
-            self.feeder.put(rt, chunk);
+            self.pairs.put(rt, chunk);
         }
     }
 
@@ -190,7 +194,7 @@ impl Cutter {
         requires cut { IsChunking chunking }
         requires small { count ≤ MAX_LENGTH }
         requires room { self.old.filled < vec_len self.old.buffer }
-        requires open { IsOpen self.old.feeder }
+        requires open { IsOpen self.old.pairs.feeder }
         ensures ended { (contents : List (List ℕ)) (content : List ℕ) → HasCut chunking contents content self.old →
             length content ≡ count → OnOk result (IsReady chunking (contents ++ content ∷ []) self.new) }
         ensures lane { KeepsLane self.old self.new }
@@ -209,7 +213,7 @@ impl Cutter {
     // Cuts what waits, if anything does.
     fn cut_rest<T: Wait>(&mut self, rt: &T, alloc: Global) -> Result<(), AllocError>
         requires within { self.old.filled ≤ vec_len self.old.buffer }
-        requires open { IsOpen self.old.feeder }
+        requires open { IsOpen self.old.pairs.feeder }
         ensures cut { (chunking : Chunking) (contents : List (List ℕ)) (current : List ℕ) → 0 < chunking.size →
             HasCut chunking contents current self.old → OnOk result (IsCutOff chunking contents current self.new) }
         ensures lane { KeepsLane self.old self.new }
@@ -231,12 +235,13 @@ impl Cutter {
         requires cut { IsChunking chunking }
         requires has { (contents : List (List ℕ)) × HasCut chunking contents [] self.old }
         ensures put { (contents : List (List ℕ)) → HasCut chunking contents [] self.old →
-            OnOk result (HasPut chunking contents (put_by self.new.feeder)) }
+            OnOk result (HasPut chunking contents (put_by self.new.pairs.feeder)) }
         ensures lane { KeepsLane self.old self.new }
     {
         self.cut_rest(rt, alloc)?;
         let zeros = if chunking.tail { self.zeros } else { 0 };
         self.put_held(rt, zeros);
+        self.pairs.flush(rt);
         Ok(())
     }
 }

@@ -13,6 +13,7 @@ ghost use Rattle.tor_streams.specs.steps.StreamWorkers.{AreDone, AreWorkers, Too
 use crate::chunking::Chunking;
 use crate::cutter::Cutter;
 use crate::gate::{Gate, OpenGate};
+use crate::pairs::Pairs;
 use crate::read_streams::{read_each, read_input};
 use crate::spares::pool;
 use crate::stream_worker::{StreamWorker, any_refused, stream_workers, take_by_halves};
@@ -44,7 +45,7 @@ fn cutter_and_workers(
     requires cut { IsChunking chunking }
     requires workers { 1 ≤ workers }
     ensures ready { IfOk result (λ both. IsReady chunking [] both.0) }
-    ensures workers { IfOk result (λ both. AreWorkers chunking both.0.feeder both.1.items) }
+    ensures workers { IfOk result (λ both. AreWorkers chunking both.0.pairs.feeder both.1.items) }
 {
     let (feeder, takers) = lane(alloc, workers)?;
     let (spares, mut give_back) = pool(alloc, room_of_pool(workers), chunking.size as usize)?;
@@ -53,12 +54,12 @@ fn cutter_and_workers(
     Ok((cutter, workers))
 }
 
-/// How many buffers are about at most: two for each worker in the lane, one that it hashes, one that is held back, and
+/// How many buffers are about at most: two for each worker in the lane, one that it hashes, two that are held back, and
 /// one that is read into. Not one of them is lost then.
 fn room_of_pool(workers: u32) -> usize
-    ensures { result ≡ 3 * workers + 2 }
+    ensures { result ≡ 3 * workers + 3 }
 {
-    3 * workers as usize + 2
+    3 * workers as usize + 3
 }
 
 /// What the workers' thread promises to answer: all workers of the feeder's lane, each at its mark. It has no worker:
@@ -72,10 +73,10 @@ struct Workers {
 impl Workers {
     fn of(cutter: &Cutter, chunking: Chunking) -> Workers
         ensures { let told : Chunking × Feeder = (result.chunking, result.feeder.value) in
-            told ≡ (chunking, cutter.now.feeder) }
+            told ≡ (chunking, cutter.now.pairs.feeder) }
     {
         Workers {
-            feeder: Snapshot::of(&cutter.feeder),
+            feeder: Snapshot::of(&cutter.pairs.feeder),
             chunking,
         }
     }
@@ -107,7 +108,7 @@ pub(crate) fn feed_readers<G: Gate + Sync, R: Read + Drop, T: Threads + Wait + S
         rt,
         |scope| -> Result<Fed<EngineError<io::Error>>, AllocError>
             requires { IsSync T.row × IsSync G.row × IsChunking chunking × IsReady chunking [] cutter
-                × AreWorkers chunking cutter.feeder workers.items }
+                × AreWorkers chunking cutter.pairs.feeder workers.items }
             ensures { IfOk result (IsFedByReaders chunking (map R.remaining readers.items)) }
         {
             let promise = Workers::of(&cutter, chunking);
@@ -169,14 +170,15 @@ fn end_and_wait<F, T: Threads + Wait>(
     cutter: Cutter,
     handle: PromisedHandle<Vec<StreamWorker>, Workers>,
 ) -> Fed<F>
-    requires { IsOpen cutter.feeder }
+    requires { IsOpen cutter.pairs.feeder }
     ensures read { result.read ≡ read }
     ensures ended { IsEnded result.feeder }
-    ensures put { put_by result.feeder ≡ put_by cutter.feeder }
-    ensures lane { FeedsLaneOf cutter.feeder result.feeder }
+    ensures put { put_by result.feeder ≡ put_by cutter.pairs.feeder }
+    ensures lane { FeedsLaneOf cutter.pairs.feeder result.feeder }
     ensures done { AreDone handle.promise.chunking handle.promise.feeder.value result.workers.items }
 {
-    let Cutter { mut feeder, .. } = cutter;
+    let Cutter { pairs, .. } = cutter;
+    let Pairs { mut feeder, .. } = pairs;
     feeder.end(rt);
     let workers = handle.join(rt);
     Fed {

@@ -28,7 +28,7 @@ pub(crate) fn read_each<R: Read + Drop, T: Wait>(
     requires cut { IsChunking chunking }
     requires ready { IsReady chunking [] cutter.old }
     ensures put { IfOk result (λ lengths. PutsGiven chunking (GiveContents (map R.remaining readers.items))
-        lengths.items (put_by cutter.new.feeder)) }
+        lengths.items (put_by cutter.new.pairs.feeder)) }
     ensures lane { KeepsLane cutter.old cutter.new }
     ensures fault { IfErr result (IsFaultOfReaders (map R.remaining readers.items)) }
 {
@@ -72,7 +72,7 @@ pub(crate) fn read_input<R: Read, T: Wait>(
     requires cut { IsChunking chunking }
     requires ready { IsReady chunking [] cutter.old }
     ensures put { IfOk result (λ lengths. PutsGiven chunking
-        (GivesInput (R.remaining reader.old) (R.remaining reader.new)) lengths.items (put_by cutter.new.feeder)) }
+        (GivesInput (R.remaining reader.old) (R.remaining reader.new)) lengths.items (put_by cutter.new.pairs.feeder)) }
     ensures lane { KeepsLane cutter.old cutter.new }
     ensures stopped { IfErr result (StopsInput (R.remaining reader.old) (R.remaining reader.new)) }
 {

@@ -16,6 +16,7 @@ use Rattle.tor_sums.specs.UnitNodes.{Node, node_over}
 use Rattle.tor_streams.specs.Streams.{IsStreamCut}
 use Rattle.tor_streams.specs.declared.chunking.Chunking.{Chunking}
 use Rattle.tor_streams.specs.declared.cutter.Cutter.{Cutter}
+use Rattle.tor_streams.specs.declared.pairs.Pairs.{Pairs}
 use Rattle.tor_streams.specs.declared.filling.Stop.{Stop}
 use Rattle.tor_streams.specs.declared.filling.Stop.TheVariants.{Read, Refused, TooLong}
 use Rattle.tor_sums.specs.declared.unit_sums.UnitSums.{UnitSums}
@@ -81,6 +82,15 @@ abbrev pub stream_cuts : Chunking → List (List ℕ) → List Cut
 stream_cuts chunking contents =
     if chunking.tail then cuts_before_end chunking contents else ending_in 0 (cuts_before_end chunking contents)
 
+-- the chunk that waits for another one, if one does
+abbrev pub chunk_waiting : Option Chunk → List Chunk
+chunk_waiting None = []
+chunk_waiting (Some chunk) = chunk ∷ []
+
+-- the chunks that are put, and the one that waits behind them
+abbrev pub given_to : Pairs → List Chunk
+given_to pairs = put_by pairs.feeder ++ chunk_waiting pairs.waiting
+
 -- the chunk that is held, with the zeros that follow it where some byte of a later content comes
 abbrev pub cuts_held : Option Chunk → ℕ → List Cut
 cuts_held None count = []
@@ -102,13 +112,13 @@ pub record HasCut (chunking : Chunking) (contents : List (List ℕ)) (current : 
   pub cut : List ℕ
   pub whole : (count : ℕ) × (length cut ≡ count * chunking.size)
   pub text : cut ++ take cutter.filled cutter.buffer.items ≡ open_text chunking.kind contents current
-  pub cuts : map cut_of (put_by cutter.feeder) ++ cuts_held cutter.held cutter.zeros
+  pub cuts : map cut_of (given_to cutter.pairs) ++ cuts_held cutter.held cutter.zeros
       ≡ closed_cuts chunking contents ++ bare_cuts (runs_of chunking.size cut)
   -- chunks are numbered from 0 on
-  pub units : units_of (put_by cutter.feeder) ++ units_held cutter.held ≡ range_with_len 0 cutter.next
-  pub opened : IsOpen cutter.feeder
+  pub units : units_of (given_to cutter.pairs) ++ units_held cutter.held ≡ range_with_len 0 cutter.next
+  pub opened : IsOpen cutter.pairs.feeder
   -- the last chunk that was cut is held
-  pub begun : cutter.held ≡ None → put_by cutter.feeder ≡ []
+  pub begun : cutter.held ≡ None → given_to cutter.pairs ≡ []
 
 -- these contents were read whole, and there is room for a byte of the next one
 pub record IsReady (chunking : Chunking) (contents : List (List ℕ)) (cutter : Cutter) : Type 0 where
@@ -120,27 +130,27 @@ pub record IsCutOff (chunking : Chunking) (contents : List (List ℕ)) (current 
     : Type 0 where
   pub filled : cutter.filled ≡ 0
   pub buffer : vec_len cutter.buffer ≡ chunking.size
-  pub cuts : map cut_of (put_by cutter.feeder) ++ cuts_held cutter.held cutter.zeros
+  pub cuts : map cut_of (given_to cutter.pairs) ++ cuts_held cutter.held cutter.zeros
       ≡ closed_cuts chunking contents ++ bare_cuts (runs_of chunking.size (open_text chunking.kind contents current))
-  pub units : units_of (put_by cutter.feeder) ++ units_held cutter.held ≡ range_with_len 0 cutter.next
-  pub opened : IsOpen cutter.feeder
-  pub begun : cutter.held ≡ None → put_by cutter.feeder ≡ []
+  pub units : units_of (given_to cutter.pairs) ++ units_held cutter.held ≡ range_with_len 0 cutter.next
+  pub opened : IsOpen cutter.pairs.feeder
+  pub begun : cutter.held ≡ None → given_to cutter.pairs ≡ []
 
 -- the lane goes on, and more can be put into it
 abbrev pub KeepsLane : Cutter → Cutter → Type 0
-KeepsLane old new = FeedsLaneOf old.feeder new.feeder × IsOpen new.feeder
+KeepsLane old new = FeedsLaneOf old.pairs.feeder new.pairs.feeder × IsOpen new.pairs.feeder
 
 -- one chunk more was cut, of what waited; no zeros are known to follow it
 pub record CutsMore (old new : Cutter) : Type 0 where
   pub filled : new.filled ≡ 0
   pub buffer : vec_len new.buffer ≡ vec_len old.buffer
-  pub cuts : map cut_of (put_by new.feeder) ++ cuts_held new.held new.zeros
-      ≡ (map cut_of (put_by old.feeder) ++ cuts_held old.held old.zeros)
+  pub cuts : map cut_of (given_to new.pairs) ++ cuts_held new.held new.zeros
+      ≡ (map cut_of (given_to old.pairs) ++ cuts_held old.held old.zeros)
       ++ (take old.filled old.buffer.items, 0) ∷ []
-  pub units : units_of (put_by new.feeder) ++ units_held new.held
-      ≡ (units_of (put_by old.feeder) ++ units_held old.held) ++ old.next ∷ []
+  pub units : units_of (given_to new.pairs) ++ units_held new.held
+      ≡ (units_of (given_to old.pairs) ++ units_held old.held) ++ old.next ∷ []
   pub next : new.next ≡ old.next + 1
-  pub begun : new.held ≡ None → put_by new.feeder ≡ []
+  pub begun : new.held ≡ None → given_to new.pairs ≡ []
 
 -- what came of a reader that was not read to its end
 abbrev pub EndsReading : ℕ → Stop → List ℕ → Type 0
@@ -148,10 +158,10 @@ EndsReading limit (Read start fault) bytes = (length bytes ≡ start) × (length
 EndsReading limit TooLong bytes = limit < length bytes
 EndsReading limit Refused bytes = length bytes ≤ limit
 
--- what was held was put, with so many zeros after it
+-- what was held was given to the lane's end, with so many zeros after it
 pub record PutsHeld (count : ℕ) (old new : Cutter) : Type 0 where
-  pub cuts : map cut_of (put_by new.feeder) ≡ map cut_of (put_by old.feeder) ++ cuts_held old.held count
-  pub units : units_of (put_by new.feeder) ≡ units_of (put_by old.feeder) ++ units_held old.held
+  pub cuts : map cut_of (given_to new.pairs) ≡ map cut_of (given_to old.pairs) ++ cuts_held old.held count
+  pub units : units_of (given_to new.pairs) ≡ units_of (given_to old.pairs) ++ units_held old.held
   pub held : new.held ≡ None
   pub filled : new.filled ≡ old.filled
   pub buffer : new.buffer ≡ old.buffer

@@ -24,6 +24,6 @@ returns-in-Ok-clause-fed g c =
     c.of-promise.ensures
     (subst (λ (q : Workers). AreDone q.chunking q.feeder.value c.end_and_wait.result.workers.items)
     c.in-Ok.ensures.ok end.done) in
-    is_fed c.args.chunking (GivesInput old new) (StopsInput old new) c.in_ok-cutter.cutter.feeder
-    c.read_input-read.new.cutter.feeder _ c.end_and_wait.result read.lane.0 end.lane end.ended end.put end.read done
+    is_fed c.args.chunking (GivesInput old new) (StopsInput old new) c.in_ok-cutter.cutter.pairs.feeder
+    c.read_input-read.new.cutter.pairs.feeder _ c.end_and_wait.result read.lane.0 end.lane end.ended end.put end.read done
     read.put read.stopped

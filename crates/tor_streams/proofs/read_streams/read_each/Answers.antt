@@ -43,8 +43,8 @@ readers-preserved g c =
       counted = map-append length before.contents (content ∷ [])
           ∙ ap₂ (λ xs n. xs ++ n ∷ []) before.counted read.2 ∙ sym c.in_ok-push-in-Ok.ensures.items;
       cut = read.4 before.contents before.cut;
-      lane = lanes_join c.args.cutter.now.feeder c.readers.cutter.feeder c.readers.cutter.feeder
-          c.read_whole.new.self.feeder before.lane refl c.read_whole.ensures.lane.0;
+      lane = lanes_join c.args.cutter.now.pairs.feeder c.readers.cutter.pairs.feeder c.readers.cutter.pairs.feeder
+          c.read_whole.new.self.pairs.feeder before.lane refl c.read_whole.ensures.lane.0;
     }
 
 pub returns-in-Err-clause-fault : goal.returns-in-Err-clause-fault

@@ -16,5 +16,5 @@ invariant-readers g l = record {
   small : AllByRecursion (λ content. length content ≤ 2 ^ 50) contents;
   counted : map length contents ≡ l.lengths.items;
   cut : IsReady l.chunking contents l.cutter;
-  lane : FeedsLaneOf l.fn.cutter.feeder l.cutter.feeder;
+  lane : FeedsLaneOf l.fn.cutter.pairs.feeder l.cutter.pairs.feeder;
 }

@@ -1,8 +1,9 @@
 -- the reader's content is what came until it was at its end
-use Rattle.std.proofs.Common.{◌≡◌, ◌+◌, ◌-◌, ◌++◌, ℕ, [], arith, refl, ◌∙◌, subst}
+use Rattle.std.proofs.Common.{◌≡◌, ◌+◌, ◌-◌, ◌++◌, ℕ, [], ap, arith, refl, ◌∙◌, subst}
 use Rattle.std.proofs.Common.{length-append}
 use Rattle.std.proofs.KnownBytes.{Consumes-nil, Consumes-trans}
 use Rattle.std.proofs.lemmas.Result.{err_from_is_err_and}
+use Rattle.tor_streams.specs.declared.pairs.Pairs.{Pairs}
 use Rattle.tor_streams.specs.steps.Cuts.{EndsReading}
 use Rattle.tor_streams.proofs.Cutting.{bytes_came, cut_whole, lanes_join, some_size}
 use Rattle.tor_streams.proofs.cutter.Cutter.read_whole.Goals as goal
@@ -60,7 +61,7 @@ returns-then-self-len-clause-read g c =
       λ contents ready.
           c.in_ok-end_content.ensures.ended contents (before.bytes ++ came.0)
           (bytes_came c.args.chunking (some_size c.args.chunking c.requires.cut) contents before.bytes came.0
-          c.chunks.self c.fill.new.self (before.cut contents ready.has) c.fill.ensures.feeder kept.0 kept.1 kept.2
+          c.chunks.self c.fill.new.self (before.cut contents ready.has) c.fill.ensures.pairs kept.0 kept.1 kept.2
           kept.3 came.5 came.6) long,
     )
 
@@ -108,12 +109,13 @@ chunks-preserved g c =
           let chunking = c.args.chunking in
           let some = some_size chunking c.requires.cut in
           let has_more = bytes_came chunking some contents before.bytes came.0 c.chunks.self c.fill.new.self
-          (before.cut contents has) c.fill.ensures.feeder kept.0 kept.1 kept.2 kept.3 came.5 came.6 in
+          (before.cut contents has) c.fill.ensures.pairs kept.0 kept.1 kept.2 kept.3 came.5 came.6 in
           let whole : c.fill.new.self.filled ≡ chunking.size =
           omega (arith, came.5, c.if-self-len.false, full, has_more.buffer) in
           cut_whole chunking some contents (before.bytes ++ came.0) c.fill.new.self c.cut.new.self has_more more
           c.in_ok-cut.ensures.lane.1 (omega (arith, whole, some)) whole;
-      lane = lanes_join c.args.self.now.feeder c.chunks.self.feeder c.fill.new.self.feeder c.cut.new.self.feeder
-          before.lane c.fill.ensures.feeder c.in_ok-cut.ensures.lane.0;
+      lane = lanes_join c.args.self.now.pairs.feeder c.chunks.self.pairs.feeder c.fill.new.self.pairs.feeder
+          c.cut.new.self.pairs.feeder before.lane (ap (λ (p : Pairs). p.feeder) c.fill.ensures.pairs)
+          c.in_ok-cut.ensures.lane.0;
       opened = c.in_ok-cut.ensures.lane.1;
     }

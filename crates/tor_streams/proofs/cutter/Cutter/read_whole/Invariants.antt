@@ -14,8 +14,8 @@ invariant-chunks g l = record {
   room : l.self.filled < vec_len l.self.buffer;
   cut : (contents : List (List ℕ)) → HasCut l.chunking contents [] l.fn.self →
       HasCut l.chunking contents bytes l.self;
-  lane : FeedsLaneOf l.fn.self.feeder l.self.feeder;
-  opened : IsOpen l.self.feeder;
+  lane : FeedsLaneOf l.fn.self.pairs.feeder l.self.pairs.feeder;
+  opened : IsOpen l.self.pairs.feeder;
 }
 
 abbrev pub decreases-chunks : goal.decreases-chunks

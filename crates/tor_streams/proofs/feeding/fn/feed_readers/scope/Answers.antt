@@ -25,8 +25,8 @@ returns-in-Ok g c =
     c.of-promise.ensures
     (subst (λ (q : Workers). AreDone q.chunking q.feeder.value c.end_and_wait.result.workers.items)
     c.in-Ok.ensures.ok end.done) in
-    let is = is_fed chunking (GiveContents known) (IsFaultOfReaders known) c.captures.cutter.feeder
-    c.read_each-read.new.cutter.feeder _ c.end_and_wait.result read.lane.0 end.lane end.ended end.put end.read done
+    let is = is_fed chunking (GiveContents known) (IsFaultOfReaders known) c.captures.cutter.pairs.feeder
+    c.read_each-read.new.cutter.pairs.feeder _ c.end_and_wait.result read.lane.0 end.lane end.ended end.put end.read done
     read.put read.fault in
     fed_by_readers chunking known c.end_and_wait.result c.refusals_first.result is first.refused first.read
     first.lane.0 first.lane.1
