@@ -53,7 +53,7 @@ impl Cutter {
         requires open { IsOpen feeder × (put_by feeder ≡ []) }
         ensures ready { IfOk result (IsReady chunking []) }
         ensures feeder { IfOk result (λ cutter. cutter.pairs.feeder ≡ feeder) }
-        ensures unit { IfOk result (λ cutter. cutter.pairs.unit ≡ chunking.size) }
+        ensures unit { IfOk result (λ cutter. cutter.pairs.unit_length ≡ chunking.size) }
     {
         let buffer = zeros(alloc, chunking.size as usize)?;
         let pairs = Pairs::new(feeder, buffer.len());
@@ -129,7 +129,7 @@ impl Cutter {
         }
     }
 
-    // Puts what was held before, and cuts what waits in the buffer; so not both are held beside it.
+    // Puts what was held before, and cuts what is in the buffer; so not both are held beside it, but for a short chunk.
     fn cut<T: Wait>(&mut self, rt: &T, alloc: Global) -> Result<(), AllocError>
         requires within { self.old.filled ≤ vec_len self.old.buffer }
         requires open { IsOpen self.old.pairs.feeder }
@@ -153,8 +153,8 @@ impl Cutter {
 
     // What waits. A buffer that is full is handed over as it is, in exchange for another; for what is copied instead,
     // one that was given back is let go, so that no more is held. Both may wait for what workers have. What was held
-    // before was put, so that they have all that is waited for; a short chunk that waits in `pairs` is too little to
-    // wait for.
+    // before was put, so that they have all of it but for the short chunk in `pairs`, with which alone there is room
+    // (`Pairs.room`).
     fn take_waiting<T: Wait>(&mut self, rt: &T, alloc: Global) -> Result<Vec<u8>, AllocError>
         requires within { self.old.filled ≤ vec_len self.old.buffer }
         ensures bytes { IfOk result (λ bytes. bytes.items ≡ take self.old.filled self.old.buffer.items) }
@@ -225,7 +225,8 @@ impl Cutter {
         Ok(())
     }
 
-    /// Puts what waits, and what is held then: no byte comes any more. With a tail the zeros that were to follow it do.
+    /// Puts what waits, what is held then, and what waits in `pairs`: no byte comes any more. With a tail the zeros
+    /// that were to follow it do.
     pub(crate) fn put_rest<T: Wait>(
         &mut self,
         rt: &T,

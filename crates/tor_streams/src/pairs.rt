@@ -1,5 +1,6 @@
 //! The end of a lane that puts short chunks two by two, so that a worker that sleeps is woken half as often.
 ghost use Rattle.std.specs.Prelude.{◌*◌, ◌+◌, ◌<◌, ◌≤◌};
+ghost use Rattle.tor_streams.specs.declared.pairs.TheConstants.{MAX_SHORT};
 ghost use Rattle.tor_streams.specs.declared.spares.TheConstants.{MOST_HELD};
 
 use std::sync::Wait;
@@ -8,9 +9,9 @@ use tor_lane::{Chunk, Feeder};
 /// A longer chunk is put at once: its worker has to begin while the next one is read.
 const MAX_SHORT: usize = 1 << 16;
 
-/// If units are longer, each chunk is put at once: the thread that reads may wait until all but two units are given
-/// back (`spares.rt`), and a chunk that it holds itself would never be.
-const MAX_UNIT: usize = 1 << 22;
+/// If units are longer, each chunk is put at once: beside long ones the thread that reads waits until all that it lent
+/// is given back (`spares.rt`), and a chunk that it keeps itself would never be.
+const MAX_UNIT_OF_PAIRS: usize = 1 << 22;
 
 /// Puts chunks into a lane, in order. Every other short one waits for the next, and both are put in a row.
 #[derive(Drop)]
@@ -18,10 +19,11 @@ pub(crate) struct Pairs {
     pub(crate) feeder: Feeder,
     pub(crate) waiting: Option<Chunk>,
     /// The bytes of a unit of the lane.
-    pub(crate) unit: usize,
+    pub(crate) unit_length: usize,
     /// The most bytes of a chunk that waits.
     most: usize,
-    ghost room: { 0 < most → 2 * unit + most ≤ MOST_HELD },
+    ghost short: { most ≤ MAX_SHORT },
+    ghost room: { 0 < most → 2 * unit_length + most ≤ MOST_HELD },
 }
 
 impl Pairs {
@@ -30,16 +32,20 @@ impl Pairs {
     ghost use Rattle.tor_streams.specs.steps.Cuts.{given_to};
 
     /// Over this end of a lane through which units of so many bytes go.
-    pub(crate) fn new(feeder: Feeder, unit: usize) -> Pairs
+    pub(crate) fn new(feeder: Feeder, unit_length: usize) -> Pairs
         ensures feeder { result.feeder ≡ feeder }
         ensures none { result.waiting ≡ None }
-        ensures unit { result.unit ≡ unit }
+        ensures unit { result.unit_length ≡ unit_length }
     {
-        let most = if unit > MAX_UNIT { 0 } else { MAX_SHORT };
+        let most = if unit_length > MAX_UNIT_OF_PAIRS {
+            0
+        } else {
+            MAX_SHORT
+        };
         Pairs {
             feeder,
             waiting: None,
-            unit,
+            unit_length,
             most,
         }
     }
@@ -49,7 +55,7 @@ impl Pairs {
         requires { IsOpen self.old.feeder }
         ensures put { given_to self.new ≡ given_to self.old ++ chunk ∷ [] }
         ensures long { self.old.most < vec_len chunk.bytes → self.new.waiting ≡ None }
-        ensures unit { self.new.unit ≡ self.old.unit }
+        ensures unit { self.new.unit_length ≡ self.old.unit_length }
         ensures open { IsOpen self.new.feeder }
         ensures lane { FeedsLaneOf self.old.feeder self.new.feeder }
     {
@@ -66,7 +72,7 @@ impl Pairs {
         requires { IsOpen self.old.feeder }
         ensures put { put_by self.new.feeder ≡ given_to self.old }
         ensures none { self.new.waiting ≡ None }
-        ensures unit { self.new.unit ≡ self.old.unit }
+        ensures unit { self.new.unit_length ≡ self.old.unit_length }
         ensures open { IsOpen self.new.feeder }
         ensures lane { FeedsLaneOf self.old.feeder self.new.feeder }
     {
