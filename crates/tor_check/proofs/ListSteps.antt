@@ -1,7 +1,7 @@
 -- One item of a list decides for all of them.
 use Rattle.tor_check.proofs.Names.{◌≡◌, ℕ, ◌<◌, true, false, Bool, List, [], ◌∷◌, ◌+◌, length, map, take}
 use Rattle.tor_check.proofs.Names.{slice_index_or, refl, list_all, list_any, Data, view, ItemRef, list_all_at}
-use Rattle.tor_check.proofs.Names.{list_all_more, list_all-map, list_any_at, list_any_more}
+use Rattle.tor_check.proofs.Names.{list_all_more, list_all-map, list_any_at, list_any_more, ◌++◌, map-append, take_more}
 
 pub any_mapped : {X Y : Type 0} (p : Y → Bool) (f : X → Y) (xs : List X)
     → list_any p (map f xs) ≡ list_any (λ x. p (f x)) xs
@@ -39,3 +39,10 @@ none_more p items i d within before fails =
     rw (any_mapped p view (take i items)) at before in
     rw (any_mapped p view (take (i + 1) items), list_any_more (λ item. p (view item)) items i d within, before', fails)
     refl
+
+-- what one more item is mapped to
+pub mapped_more : {Y : Type 0} (f : Data → Y) (items : List ItemRef) (i : ℕ) (d : ItemRef) (before : List Y) (y : Y)
+    → i < length items → before ≡ map f (map view (take i items)) → y ≡ f (view (slice_index_or items i d))
+    → before ++ y ∷ [] ≡ map f (map view (take (i + 1) items))
+mapped_more f items i d before y within same e =
+    rw (take_more items i d within, map-append view, map-append f, same, e) refl

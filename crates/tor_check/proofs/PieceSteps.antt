@@ -2,7 +2,9 @@
 use Rattle.tor_check.proofs.Names.{◌≡◌, ℕ, ◌<◌, ◌≤◌, true, List, [], refl, None, Some, leb-false, leb-true, nat_le}
 use Rattle.tor_check.proofs.Names.{◌==◌, ◌∙◌, false, Bool, cond, sym, slice_get, if◌then◌else◌, le-ltb, cond_some}
 use Rattle.tor_check.proofs.Names.{none-some, bytes_eq-Decides, IsPieceProof, piece_refusal, ProveError, is_proof}
-use Rattle.tor_check.proofs.Names.{proof_count, proof_level, proof_root, height, FileView, View, has_v2}
+use Rattle.tor_check.proofs.Names.{proof_count, proof_level, proof_root, height, FileView, View, has_v2, length}
+use Rattle.tor_check.proofs.Names.{not, ◌||◌}
+use Rattle.std.proofs.lemmas.Option.{slice_get_past}
 use Rattle.tor_check.specs.declared.piece_proofs.ProveError.TheVariants as errors
 
 -- one hash is its own root
@@ -20,6 +22,16 @@ proof_of_root p told index hash siblings short root first none =
       of_piece = rw (small, root) refl;
       proof = rw (small, root, first, none) (alone hash (proof_level told.file.length p));
     }
+
+-- no file is at the index
+pub no_file : (view : View) (file index : ℕ) → length view.files ≤ file
+    → piece_refusal view file index ≡ Some errors.Index
+no_file view file index past = rw (slice_get_past view.files file past) refl
+
+-- no v2 side, or an empty file
+pub no_tree : (view : View) (file index : ℕ) (told : FileView) → slice_get view.files file ≡ Some told
+    → (not (has_v2 view.kind) || told.file.length == 0) ≡ true → piece_refusal view file index ≡ Some errors.NoTree
+no_tree view file index told there without = rw (there, without) refl
 
 -- a file of a v2 side that is not empty, at its index
 pub record IsFound (view : View) (file : ℕ) (told : FileView) : Type 0 where

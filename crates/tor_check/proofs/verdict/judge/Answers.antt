@@ -65,3 +65,12 @@ returns-in-Err-judge_alignment-clause-memory c =
 pub returns-in_err-torrent-clause-memory : goal.returns-in_err-torrent-clause-memory
 returns-in_err-torrent-clause-memory c =
     λ _. before_memory (view c.args.root.now) c.in-Ok.ensures.accepted
+
+pub returns-in-Err-read_sides-clause-memory : goal.returns-in-Err-read_sides-clause-memory
+returns-in-Err-read_sides-clause-memory c = λ _. before_memory (view c.args.root.now) c.in-Ok.ensures.accepted
+
+pub returns-in-Err-judge_layers-clause-memory : goal.returns-in-Err-judge_layers-clause-memory
+returns-in-Err-judge_layers-clause-memory c = λ _. before_memory (view c.args.root.now) c.in-Ok.ensures.accepted
+
+pub returns-clause-memory : goal.returns-clause-memory
+returns-clause-memory c = λ _. before_memory (view c.args.root.now) c.in-Ok.ensures.accepted
