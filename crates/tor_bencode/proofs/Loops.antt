@@ -5,7 +5,7 @@ use Rattle.tor_bencode.proofs.Names.{nat_tests, ref_view, ref_items_view, ItemRe
 use Rattle.tor_bencode.proofs.Names.{Pairs}
 use Rattle.tor_bencode.proofs.Names.{no_pairs, pair, Fault, ◌>>=◌, Reading, Stops, value_at, value_with, nested_at}
 use Rattle.tor_bencode.proofs.Names.{items_at, Option, cond, Bor, ref_pairs_view, KeyOrder, pairs_at, string_at}
-use Rattle.tor_bencode.proofs.Names.{follows, is_ascii_digit}
+use Rattle.tor_bencode.proofs.Names.{follows, is_ascii_digit, Truncated}
 use Rattle.tor_bencode.proofs.Runs.{take_rest}
 use Rattle.tor_bencode.proofs.Numerals.{digit_range}
 use Rattle.tor_bencode.proofs.Spelled.{StartsWithDigit}
@@ -89,6 +89,23 @@ items_end read front (suc fuel) (c ∷ rest) total some is enough so_far =
     rw at_end refl in
     sym so_far ∙ one
     ∙ ap₂ (λ (items : Items) (after : List ℕ). Ok (items, after)) (items_before-no_items front) (sym (take_rest c rest))
+
+-- an item that cannot be read
+pub items_stop : (read : Read) (front : Items) (fuel : ℕ) (bytes : List ℕ) (total : Reading Items)
+    → 0 < length bytes → (get_or bytes 0 0 ≡ 101 → ⊥) → length bytes ≤ fuel
+    → with_items front (items_at read fuel bytes) ≡ total → (stop : Stop) → Stops stop (read bytes) → Stops stop total
+items_stop read front fuel [] total some other enough so_far stop h = absurd (omega arith)
+items_stop read front zero (c ∷ rest) total some other enough so_far stop h = absurd (omega arith)
+items_stop read front (suc fuel) (c ∷ rest) total some other enough so_far stops.Memory h = tt
+items_stop read front (suc fuel) (c ∷ rest) total some other enough so_far (stops.At fault at) h =
+    let no_end : (c == 101) ≡ false = grind (arith, nat_tests) in sym so_far ∙ rw (no_end, h) refl
+
+-- no end
+pub items_cut : (read : Read) (front : Items) (fuel : ℕ) (bytes : List ℕ) (total : Reading Items) → length bytes ≡ 0
+    → with_items front (items_at read fuel bytes) ≡ total → total ≡ Err (Truncated, bytes)
+items_cut read front zero [] total none so_far = sym so_far
+items_cut read front (suc fuel) [] total none so_far = sym so_far
+items_cut read front fuel (c ∷ rest) total none so_far = absurd (omega arith)
 
 pub stops_bind : {A B : Type 0} (stop : Stop) (r : Result A (Fault × List ℕ)) (f : A → Result B (Fault × List ℕ))
     → Stops stop r → Stops stop (r >>= f)
@@ -186,3 +203,10 @@ pairs_end read front (suc fuel) last (c ∷ rest) total some is enough so_far =
     rw at_end refl in
     sym so_far ∙ one
     ∙ ap₂ (λ (pairs : Pairs) (after : List ℕ). Ok (pairs, after)) (pairs_before-no_pairs front) (sym (take_rest c rest))
+
+pub pairs_cut : (read : Read) (front : Pairs) (fuel : ℕ) (last : Option (List ℕ)) (bytes : List ℕ)
+    (total : Reading Pairs) → length bytes ≡ 0 → with_pairs front (pairs_at read fuel last bytes) ≡ total
+    → total ≡ Err (Truncated, bytes)
+pairs_cut read front zero last [] total none so_far = sym so_far
+pairs_cut read front (suc fuel) last [] total none so_far = sym so_far
+pairs_cut read front fuel last (c ∷ rest) total none so_far = absurd (omega arith)

@@ -3,10 +3,11 @@ use Rattle.tor_bencode.proofs.Names.{of_z, SFits, err_from_is_err_and, Data, Ite
 use Rattle.tor_bencode.proofs.Names.{list, dictionary, ◌>>=◌, Reading, Stops, value_at, items_at, pairs_at, ref_view}
 use Rattle.tor_bencode.proofs.Names.{ref_items_view, ref_pairs_view}
 use mir.Syntax.{w64}
-use Rattle.tor_bencode.proofs.Loops.{with_items, with_pairs, items_view-push, items_end, items_go_on}
-use Rattle.tor_bencode.proofs.Loops.{stops_bind, pairs_view-push, pairs_end, pairs_go_on, pairs_stop_key}
+use Rattle.tor_bencode.proofs.Loops.{with_items, with_pairs, items_view-push, items_cut, items_end, items_go_on}
+use Rattle.tor_bencode.proofs.Loops.{items_stop}
+use Rattle.tor_bencode.proofs.Loops.{stops_bind, pairs_view-push, pairs_cut, pairs_end, pairs_go_on, pairs_stop_key}
 use Rattle.tor_bencode.proofs.Loops.{pairs_stop_order, pairs_stop_value}
-use Rattle.tor_bencode.proofs.Values.{value_integer, value_list, value_dictionary, value_too_deep}
+use Rattle.tor_bencode.proofs.Values.{value_integer, value_list, value_dictionary, value_string, value_too_deep}
 use Rattle.tor_bencode.proofs.Spelled.{starts_within}
 use Rattle.tor_bencode.proofs.Views.{ref_view-Int, ref_view-List, ref_view-Dict}
 use Rattle.tor_bencode.proofs.read.+read.Goals as goal
@@ -132,3 +133,43 @@ value-returns-in_ok-n-in-105-clause-read t c =
     ∙ ap (λ (r : Reading ℤ). r >>= λ x. Ok (integer x.0, x.1)) c.in_ok-n-in-105.ensures.read
     ∙ ap (λ (d : Data). Ok (d, c.in_ok-n-in-105.rest.now))
     (ap integer (sym same) ∙ sym (ref_view-Int (to_z w64 (of_z w64 c.in_ok-n-in-105.n))))
+
+pub list-returns-in_err-item-clause-read : goal.list-returns-in_err-item-clause-read
+list-returns-in_err-item-clause-read t c =
+    let l = c.items in
+    let p = err_from_is_err_and c.from_residual.result c.from_residual.ensures.1 in
+    let other : get_or l.rest.now 0 0 ≡ 101 → ⊥ = omega arith in
+    rw (p.1, p.2)
+    (items_stop (value_at c.args.room) (ref_items_view l.items.items) l.invariant.0 l.rest.now _ (omega arith) other
+    l.invariant.1 l.invariant.3 c.in_err-item.field-0.0 c.in_err-item.ensures.read)
+
+pub list-returns-in-empty-clause-read : goal.list-returns-in-empty-clause-read
+list-returns-in-empty-clause-read t c =
+    let l = c.items in
+    items_cut (value_at c.args.room) (ref_items_view l.items.items) l.invariant.0 l.rest.now _ (omega arith)
+    l.invariant.3
+
+pub dictionary-returns-in-empty-clause-read : goal.dictionary-returns-in-empty-clause-read
+dictionary-returns-in-empty-clause-read t c =
+    let l = c.pairs in
+    pairs_cut (value_at c.args.room) (ref_pairs_view l.pairs.items) l.invariant.0 _ l.rest.now _ (omega arith)
+    l.invariant.3
+
+pub value-returns-in_err-n-in-105-clause-read : goal.value-returns-in_err-n-in-105-clause-read
+value-returns-in_err-n-in-105-clause-read t c =
+    let p = err_from_is_err_and c.from_residual.result c.from_residual.ensures.1 in
+    let stop = c.in_err-n-in-105.field-0.0 in
+    rw (p.1, p.2)
+    (subst (Stops stop) (sym (value_integer c.args.room c.args.bytes.now (omega arith) (omega arith)))
+    (stops_bind stop _ _ c.in_err-n-in-105.ensures.read))
+
+pub value-returns-in_err-text-in-48-to-57-clause-read : goal.value-returns-in_err-text-in-48-to-57-clause-read
+value-returns-in_err-text-in-48-to-57-clause-read t c =
+    let p =
+    err_from_is_err_and c.from_residual-in_err-text-in-48-to-57.result
+    c.from_residual-in_err-text-in-48-to-57.ensures.1 in
+    let stop = c.in_err-text-in-48-to-57.field-0.0 in
+    let starts = starts_within c.args.bytes.now (omega arith) (omega arith) (omega arith) in
+    rw (p.1, p.2)
+    (subst (Stops stop) (sym (value_string c.args.room c.args.bytes.now (omega arith) starts.digit))
+    (stops_bind stop _ _ c.in_err-text-in-48-to-57.ensures.read))
