@@ -2,6 +2,8 @@ use Rattle.tor_tree.proofs.Cited.{◌≡◌, ◌∙◌, ap, inl, inr, ⊎_elim, 
 use Rattle.tor_tree.proofs.Cited.{ref_view, Memory}
 use Rattle.tor_tree.proofs.WalkSteps.{added_to_end, entries_go_on, first_shaped, not_shaped, shape_goes_on}
 use Rattle.tor_tree.proofs.WalkSteps.{shaped_takes, shaped_to_end, taken_here}
+use Rattle.std.proofs.lemmas.Grind.{common_steps}
+use Rattle.tor_tree.proofs.WalkSteps.{walking}
 use Rattle.tor_tree.proofs.entries.+walk.Goals as goal
 
 pub add_folder-returns-in_err-add_pair-clause-refused : goal.add_folder-returns-in_err-add_pair-clause-refused
@@ -55,3 +57,15 @@ add_folder-loop-key-preserved t c =
           c.loop-key.invariant.2 item (omega arith) c.loop-key-item.is
           (shaped_takes item.0.now (ref_view item.1) shaped) c.loop-key.invariant.3,
     )
+
+pub add_pair-returns-then-is_empty-clause-shaped : goal.add_pair-returns-then-is_empty-clause-shaped
+add_pair-returns-then-is_empty-clause-shaped t c = grind (arith, walking)
+
+pub add_pair-returns-then-is_empty-clause-refused : goal.add_pair-returns-then-is_empty-clause-refused
+add_pair-returns-then-is_empty-clause-refused t c = grind (arith, walking)
+
+pub add_pair-returns-clause-added : goal.add_pair-returns-clause-added
+add_pair-returns-clause-added t c = grind (arith, walking)
+
+pub add_pair-returns-clause-folder_stays : goal.add_pair-returns-clause-folder_stays
+add_pair-returns-clause-folder_stays t c = grind (arith, common_steps)

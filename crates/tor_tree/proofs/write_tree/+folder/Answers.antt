@@ -4,6 +4,10 @@ use Rattle.tor_tree.proofs.Cited.{IsRoot, has_name_at, files_below}
 use Rattle.tor_tree.proofs.FilesBelow.{all_to, faultless_named, first_has, followed_by, followed_by-none}
 use Rattle.tor_tree.proofs.FilesBelow.{followed_by-push, group_made, length-files_below, next_made, to_end}
 use Rattle.tor_tree.proofs.ItemMemory.{dictionary_of_item}
+use borrow.Author.Tests.{tests}
+use Rattle.std.proofs.Common.{rules}
+use Rattle.std.proofs.lemmas.Grind.{common_steps}
+use Rattle.std.proofs.lemmas.List.Elements.{All-drop, All-take}
 use Rattle.tor_tree.proofs.write_tree.+folder.Goals as goal
 
 pub folder-loop-start-preserved : goal.folder-loop-start-preserved
@@ -58,3 +62,24 @@ next_pair-returns-clause-made t c =
     c.run_len-count.ensures.same c.run_len-count.ensures.ends
     (pairs_view c.in_ok-inside.inside.items) c.in_ok-inside.ensures.made in
     rw (c.in_ok-from_slice.ensures.items, c.as_bytes.ensures.value, dictionary_of_item) made
+
+pub folder-next_pair-requires : goal.folder-next_pair-requires
+folder-next_pair-requires t c = (
+  omega arith,
+  (
+    omega arith,
+    (search (rules, All-take, All-drop), (search (rules, All-take, All-drop), (omega arith, omega arith))),
+  ),
+)
+
+pub next_pair-folder-requires : goal.next_pair-folder-requires
+next_pair-folder-requires t c = (
+  omega arith,
+  (
+    grind (arith, common_steps),
+    (search (rules, All-take), (search rules, search rules)),
+  ),
+)
+
+pub next_pair-returns-clause-count : goal.next_pair-returns-clause-count
+next_pair-returns-clause-count t c = search (tests, rules, common_steps)

@@ -1,6 +1,7 @@
 use Rattle.tor_tree.proofs.Cited.{inl, inr, sym, ◌∙◌, arith, IsPermutation, IfOk-weaker, IfErr-weaker}
 use Rattle.tor_tree.proofs.ListFaults.{fault_of_lengths, fault_of_paths}
 use Rattle.tor_tree.proofs.Permuted.{list_fault-permutation, permutation-written_back}
+use Rattle.std.proofs.lemmas.Grind.{common_steps}
 use Rattle.tor_tree.proofs.lists.FileList.build.Goals as goal
 
 pub returns-in-Some-clause-refused : goal.returns-in-Some-clause-refused
@@ -34,3 +35,6 @@ returns-clause-refused c =
       | inr memory ↦ inr memory
     ])
     c.without_letters.ensures.refused
+
+pub returns-clause-same_files : goal.returns-clause-same_files
+returns-clause-same_files c = grind (arith, common_steps)

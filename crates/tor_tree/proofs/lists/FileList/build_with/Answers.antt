@@ -4,6 +4,7 @@ use Rattle.tor_tree.proofs.LetteredLists.{entry_of, file_in, lettered_of, letter
 use Rattle.tor_tree.proofs.LetteredLists.{same_files}
 use Rattle.tor_tree.proofs.ListFaults.{fault_of_lengths, fault_of_paths}
 use Rattle.tor_tree.proofs.Permuted.{permutation-written_back}
+use Rattle.std.proofs.lemmas.Grind.{common_steps}
 use Rattle.tor_tree.proofs.lists.FileList.build_with.Goals as goal
 
 pub returns-in-Some-clause-refused : goal.returns-in-Some-clause-refused
@@ -59,3 +60,9 @@ returns-clause-refused c =
     (λ fault refused. inl (same_fault c.args.files.items c.deref.result.now moved
     ∙ fault_of_lengths (map file_in c.deref.result.now) judged ∙ rw apart at refused))
     c.of_sorted.ensures.refused
+
+pub paths_fault-requires-clause-some : goal.paths_fault-requires-clause-some
+paths_fault-requires-clause-some c = grind (arith, common_steps)
+
+pub of_sorted-requires-clause-one_each : goal.of_sorted-requires-clause-one_each
+of_sorted-requires-clause-one_each c = grind (arith, common_steps)
