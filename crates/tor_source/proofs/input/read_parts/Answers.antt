@@ -2,6 +2,7 @@
 use Rattle.std.proofs.Common.{◌≡◌, arith, take, length, ◌++◌, length-append, length-take}
 use Rattle.std.proofs.KnownBytes.{Consumes-trans}
 use Rattle.tor_source.proofs.Inputs.{fault_after}
+use Rattle.std.proofs.lemmas.Grind.{common_steps}
 use Rattle.tor_source.proofs.input.read_parts.Goals as goal
 
 pub returns-in-Err-clause-err : goal.returns-in-Err-clause-err
@@ -62,3 +63,9 @@ returns-then-count-lt-BUFFER_LENGTH-clause-whole g c =
       record { given = given; end = end },
       taken,
     )
+
+pub parts-init : goal.parts-init
+parts-init g c = grind (arith, common_steps)
+
+pub take-requires : goal.take-requires
+take-requires g c = grind (arith, common_steps)
