@@ -3,6 +3,7 @@ use Rattle.tor_merkle.proofs.Names.{◌^◌, [], ◌∷◌, ◌++◌, length, ar
 use Rattle.tor_merkle.proofs.Names.{lt-leb, le-leb, false≢true, nodes, padded_root, padded_subtree}
 use Rattle.tor_merkle.proofs.Filled.{padded_root-nodes}
 use Rattle.tor_merkle.proofs.Keeps.{ends_piece, only_piece, pieces_more, pieces_all}
+use Rattle.std.proofs.lemmas.Grind.{common_steps}
 use Rattle.tor_merkle.proofs.pieces.PieceTree.finish.Goals as goal
 
 pub returns-then-is_empty-clause-root : goal.returns-then-is_empty-clause-root
@@ -56,3 +57,9 @@ returns-clause-layer c =
     ∙ ap (λ v. nodes 0 v.leaves v.height) c.self.view_is
     ∙ sym (cond-false _ [] _ (lt-leb (length c.args.self.leaves) (2 ^ c.args.self.height)
     (omega (arith, more, ap (λ v. length v.leaves) c.self.view_is, ap (λ v. 2 ^ v.height) c.self.view_is))))
+
+pub root-requires : goal.root-requires
+root-requires c = grind (arith, common_steps)
+
+pub root-requires-2 : goal.root-requires-2
+root-requires-2 c = grind (arith, common_steps)
