@@ -2,6 +2,7 @@
 use Rattle.tor_plan.proofs.Names.{◌+◌, ◌/◌, ◌++◌, drop, get_or, arith, ap, ap₂, ◌∙◌, sum_by_more, div_ceil, trees_from}
 use Rattle.tor_plan.proofs.Trees.{log2_is, one_tree, no_tree, trees-end}
 use Rattle.tor_plan.proofs.forests.trees_of.Goals.{then-count-gt1+in_ok-push, else-count-gt1}
+use Rattle.std.proofs.lemmas.Grind.{common_steps}
 use Rattle.tor_plan.proofs.forests.trees_of.Goals as goal
 
 pub files-preserved : goal.files-preserved
@@ -34,3 +35,6 @@ files-preserved c =
 pub returns : goal.returns
 returns c = trees-end c.args.size c.files.first c.args.lengths.now c.files.length-index c.files.trees.items _
     c.files-test.false c.files.invariant.all
+
+pub overflow_add-first : goal.overflow_add-first
+overflow_add-first c = grind (arith, common_steps)
