@@ -1,5 +1,6 @@
 -- one part after the other
 use Rattle.std.proofs.Common.{List, [], ◌++◌, inl, inr, ap, subst, sym, ◌∙◌, arith}
+use Rattle.std.proofs.lemmas.Grind.{common_steps}
 use Rattle.std.proofs.lemmas.List.{take_all}
 use Rattle.std.specs.List.{All}
 use Rattle.tor_plan.specs.WithinEntries.{IsInFile}
@@ -20,6 +21,9 @@ each-init g c = record {
       c.args.sums.now fresh.taken;
   faultless = λ facts steady have. first_of_none (part_fault facts);
 }
+
+pub read_part-requires-clause-small : goal.read_part-requires-clause-small
+read_part-requires-clause-small g c = grind (arith, common_steps)
 
 pub returns-in-Err-clause-fault : goal.returns-in-Err-clause-fault
 returns-in-Err-clause-fault g c = λ facts steady have.
@@ -72,3 +76,9 @@ returns-clause-read g c = λ before fresh.
       taken = c.in_ok-feed_zeros-2.ensures.taken plan.kind plan.piece_length [] joined fresh.taken;
       begun = c.in_ok-feed_zeros-2.ensures.begun ∙ fresh.begun;
     })
+
+pub returns-clause-fault : goal.returns-clause-fault
+returns-clause-fault g c = λ facts steady have.
+    let parts = c.as_slice-parts.result.now in
+    let all = take_all c.each.part-index parts c.each-test.false ∙ c.as_slice-parts.ensures in
+    ap (first_of (part_fault facts)) (sym all) ∙ c.each.invariant.faultless facts steady have
