@@ -18,6 +18,9 @@ returns-in-Err-clause-steady g c = λ facts steady.
     inr (told_fault facts c.files.lengths.items c.files.file c.args.count _ c.files-test.true
     (c.files.invariant.steady facts steady) (c.in-Err.ensures.steady facts steady))
 
+pub returns-in-Err-clause-gave : goal.returns-in-Err-clause-gave
+returns-in-Err-clause-gave g c = c.in-Err.ensures.gave c.args.count c.files-test.true
+
 pub files-preserved : goal.files-preserved
 files-preserved g c =
     let answers = g.S.Source.answers c.args.source.now in

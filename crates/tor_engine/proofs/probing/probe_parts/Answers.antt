@@ -31,6 +31,16 @@ parts-preserved g c =
           (c.in-Ok.ensures.given lengths (are i _ c.parts-test.true)));
     }
 
+pub returns-in-Err-clause-refused : goal.returns-in-Err-clause-refused
+returns-in-Err-clause-refused g c = λ facts steady have.
+    let parts = c.args.parts.now in
+    absurd (c.in-Err.ensures.refused facts steady
+    (one_there facts parts parts c.parts.part-index _ c.parts-test.true refl have))
+
+pub returns-in-Err-clause-gave : goal.returns-in-Err-clause-gave
+returns-in-Err-clause-gave g c = λ lengths are.
+    c.in-Err.ensures.gave lengths (are c.parts.part-index _ c.parts-test.true)
+
 pub returns-clause-failed : goal.returns-clause-failed
 returns-clause-failed g c = λ facts steady have.
     c.parts.invariant.failed facts steady have

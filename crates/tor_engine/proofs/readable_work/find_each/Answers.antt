@@ -1,10 +1,12 @@
 -- one piece after the other
-use Rattle.std.proofs.Common.{◌++◌, [], ◌∷◌, ap, map, refl, sym, take, ◌∙◌}
+use Rattle.std.proofs.Common.{◌++◌, List, [], ◌∷◌, ap, map, refl, subst, sym, take, ◌∙◌}
 use Rattle.std.proofs.lemmas.List.{map-append, take_all, take_more}
+use Rattle.std.specs.List.{All}
 use Rattle.tor_plan.specs.Pieces.{pieces_of_unit}
+use Rattle.tor_plan.specs.declared.units.PlanUnit.{PlanUnit}
 use Rattle.tor_sums.specs.steps.Given.{IsGivenRead, lengths_of_sizes}
 use Rattle.tor_engine.specs.declared.readable_unit.FaultyUnit.{FaultyUnit}
-use Rattle.tor_engine.specs.steps.Pieces.{hashes_in}
+use Rattle.tor_engine.specs.steps.Pieces.{IsPiece, hashes_in}
 use Rattle.tor_engine.proofs.FoundReadable.{finds_as, finds_both, finds_none}
 use Rattle.tor_engine.proofs.readable_work.find_each.Goals as goal
 
@@ -19,6 +21,24 @@ pieces-init g c =
           (sym (ap (map hashes_in) c.in_ok-found.ensures.items)) (sym c.new-faults.ensures.items)
           (finds_none is_steady may_be c.args.plan.now told);
     }
+
+pub find_or_faults-requires-clause-piece : goal.find_or_faults-requires-clause-piece
+find_or_faults-requires-clause-piece g c =
+    let plan = c.args.plan.now in
+    let all = c.as_slice-piece-items.ensures.value ∙ c.in_ok-pieces.ensures
+    ∙ ap (λ p. pieces_of_unit p c.args.unit.now) c.piece_length.ensures in
+    let are = subst (λ (pieces : List PlanUnit). All (IsPiece plan) pieces) (sym all) c.requires.unit.pieces in
+    subst (λ (piece : PlanUnit). IsPiece plan piece) (sym c.piece-item.is)
+    (are c.pieces.piece-index c.piece-item.result c.pieces-test.true)
+
+pub returns-in-Err-clause-refused : goal.returns-in-Err-clause-refused
+returns-in-Err-clause-refused g c = c.in-Err.ensures.refused
+
+pub returns-in-Err-clause-no_read_fault : goal.returns-in-Err-clause-no_read_fault
+returns-in-Err-clause-no_read_fault g c = c.in-Err.ensures.no_read_fault
+
+pub returns-in-Err-clause-gave : goal.returns-in-Err-clause-gave
+returns-in-Err-clause-gave g c = c.in-Err.ensures.gave
 
 pub pieces-preserved : goal.pieces-preserved
 pieces-preserved g c =
