@@ -2,7 +2,7 @@
 use Rattle.std.proofs.Common.{◌≡◌, ℕ, ◌+◌, ◌/◌, ◌%◌, ◌≤◌, Bool, true, false, cond, List, ◌++◌, length}
 use Rattle.std.proofs.Common.{arith}
 use Rattle.std.proofs.Common.{◌<◌, ap, Result, Ok, Err}
-use Rattle.std.specs.Result.{is_ok, OnOk}
+use Rattle.std.specs.Result.{IsOk, OnOk}
 use Rattle.std.proofs.Math.Utf8.{encode}
 use Rattle.std.proofs.lemmas.Bool.Decides.{nat_tests}
 use Rattle.std.proofs.lemmas.List.{length-append}
@@ -51,10 +51,6 @@ one_more text c plain h room few = record {
   short = omega (arith, length-append text (encode c));
 }
 
-pub kept : (b : Bool) (text more : List ℕ) → IsPlainText text → IsPlainText more → IsPlainText (cond b more text)
-kept true text more h k = k
-kept false text more h k = h
-
 either_some : (b : Bool) (x y : List ℕ) → 0 < length x → 0 < length y → 0 < length (cond b x y)
 either_some true x y h k = h
 either_some false x y h k = k
@@ -67,8 +63,11 @@ some_bytes c =
     (either_some (nat_lt c 65536) _ _ (omega arith) (omega arith)))
 
 -- a text to which a character was added is not empty
-pub said_one : {E : Type 0} (r : Result (Unit {0}) E) (text new : List ℕ) (c : ℕ) (P : Type 0)
-    → new ≡ cond (is_ok r) (text ++ encode c) text → OnOk r (P → 0 < length new)
-said_one (Ok u) text new c P is =
-    λ _. let more = some_bytes c in omega (arith, more, ap (length {A = ℕ}) is, length-append text (encode c))
-said_one (Err e) text new c P is = tt
+pub said_one : (text new : List ℕ) (c : ℕ) → new ≡ text ++ encode c → 0 < length new
+said_one text new c is =
+    let more = some_bytes c in omega (arith, more, ap (length {A = ℕ}) is, length-append text (encode c))
+
+-- what holds of a call that went well
+pub of_ok : {E : Type 0} (r : Result (Unit {0}) E) (P : Type 0) → IsOk r → OnOk r P → P
+of_ok (Ok u) P is h = h
+of_ok (Err e) P is h = grind (arith, is)

@@ -1,30 +1,24 @@
 //! Where bytes stop to be a tree.
-ghost use Rattle.std.specs.Prelude.{◌<◌, ◌≤◌, OnOk, length};
+ghost use Rattle.std.specs.Prelude.{◌<◌, ◌≤◌, length};
 
 use crate::line::Line;
-use std::alloc::AllocError;
 use tor_bencode::Fault;
 
 /// How many bytes are cited on each side of the one at a fault.
 const AROUND: usize = 20;
 
 /// Tells the fault, its offset, and the bytes around it. The byte at the offset stands in brackets.
-pub(crate) fn tell_fault(
-    line: &mut Line,
-    bytes: &[u8],
-    fault: Fault,
-    offset: usize,
-) -> Result<(), AllocError>
-    ensures { OnOk result (0 < length line.new) }
+pub(crate) fn tell_fault(line: &mut Line, bytes: &[u8], fault: Fault, offset: usize)
+    ensures { 0 < length line.new }
 {
-    line.say("byte ")?;
-    line.number(offset as u64)?;
-    line.say(": ")?;
-    line.say(words_of(fault))?;
+    line.say("byte ");
+    line.number(offset as u64);
+    line.say(": ");
+    line.say(words_of(fault));
     let (before, from) = bytes.split_at(offset.min(bytes.len()));
-    line.say(if before.len() > AROUND { ": .." } else { ": " })?;
+    line.say(if before.len() > AROUND { ": .." } else { ": " });
     let (_, near) = before.split_at(before.len().saturating_sub(AROUND));
-    line.cite_bytes(near)?;
+    line.cite_bytes(near);
     match from {
         [] => line.say("[the end]"),
         [byte, after @ ..] => tell_from(line, *byte, after),
@@ -32,14 +26,14 @@ pub(crate) fn tell_fault(
 }
 
 // The byte at the fault, and some after it.
-fn tell_from(line: &mut Line, byte: u8, after: &[u8]) -> Result<(), AllocError>
+fn tell_from(line: &mut Line, byte: u8, after: &[u8])
     ensures { length line.old ≤ length line.new }
 {
-    line.say("[")?;
-    line.cite_bytes(&[byte])?;
-    line.say("]")?;
+    line.say("[");
+    line.cite_bytes(&[byte]);
+    line.say("]");
     let (near, _) = after.split_at(after.len().min(AROUND));
-    line.cite_bytes(near)?;
+    line.cite_bytes(near);
     line.say(if after.len() > AROUND { ".." } else { "" })
 }
 

@@ -2,7 +2,6 @@
 ghost use Rattle.std.specs.Prelude.{◌<◌};
 
 use crate::line::{Line, MAX_CITED, is_control};
-use std::alloc::AllocError;
 use std::str;
 use tor_tree::FilePath;
 
@@ -12,7 +11,7 @@ impl Line {
     /// Adds bytes of a torrent's: control bytes and backslashes are written out, each as a backslash, `x` and two
     /// hexadecimal digits; if they are no UTF-8, so is each byte that is not of ASCII. Two dots stand for what is left
     /// out of long ones.
-    pub fn cite(&mut self, bytes: &[u8]) -> Result<(), AllocError>
+    pub fn cite(&mut self, bytes: &[u8])
         ensures { length self.old ≤ length self.new }
     {
         match str::from_utf8(bytes) {
@@ -21,72 +20,72 @@ impl Line {
         }
     }
 
-    fn cite_text(&mut self, text: &str) -> Result<(), AllocError>
+    fn cite_text(&mut self, text: &str)
         ensures { length self.old ≤ length self.new }
     {
         let start = self.len();
         'characters: for c in text.chars() {
             if self.has_cited_enough(start) {
-                return self.say("..");
+                self.say("..");
+                return;
             }
-            self.escape(c)?;
+            self.escape(c);
         }
-        Ok(())
     }
 
     /// Adds bytes each by itself.
-    pub fn cite_bytes(&mut self, bytes: &[u8]) -> Result<(), AllocError>
+    pub fn cite_bytes(&mut self, bytes: &[u8])
         ensures { length self.old ≤ length self.new }
     {
         let start = self.len();
         'bytes: for byte in bytes {
             if self.has_cited_enough(start) {
-                return self.say("..");
+                self.say("..");
+                return;
             }
-            self.escape_byte(*byte)?;
+            self.escape_byte(*byte);
         }
-        Ok(())
     }
 
     /// Adds names with slashes between.
-    pub fn cite_names(&mut self, names: &[&[u8]]) -> Result<(), AllocError>
+    pub fn cite_names(&mut self, names: &[&[u8]])
         ensures { length self.old ≤ length self.new }
     {
         let start = self.len();
         'names: for name in names {
             if self.has_cited_enough(start) {
-                return self.say("/..");
+                self.say("/..");
+                return;
             }
             if self.len() != start {
-                self.add('/')?;
+                self.add('/');
             }
-            self.cite(name)?;
+            self.cite(name);
         }
-        Ok(())
     }
 
     /// Adds a path, with slashes between its names.
-    pub fn cite_path(&mut self, path: &FilePath) -> Result<(), AllocError>
+    pub fn cite_path(&mut self, path: &FilePath)
         ensures { length self.old ≤ length self.new }
     {
         let start = self.len();
         'names: for name in path.names() {
             if self.has_cited_enough(start) {
-                return self.say("/..");
+                self.say("/..");
+                return;
             }
             if self.len() != start {
-                self.add('/')?;
+                self.add('/');
             }
-            self.cite(name.as_bytes())?;
+            self.cite(name.as_bytes());
         }
-        Ok(())
     }
 
     fn has_cited_enough(&self, start: usize) -> bool {
         self.len().saturating_sub(start) > MAX_CITED
     }
 
-    fn escape(&mut self, c: char) -> Result<(), AllocError>
+    fn escape(&mut self, c: char)
         ensures { length self.old ≤ length self.new }
     {
         if is_control(c) || c == '\\' {
@@ -96,7 +95,7 @@ impl Line {
         }
     }
 
-    fn escape_byte(&mut self, byte: u8) -> Result<(), AllocError>
+    fn escape_byte(&mut self, byte: u8)
         ensures { length self.old ≤ length self.new }
     {
         if byte < 128 {
@@ -107,11 +106,11 @@ impl Line {
     }
 
     // Two digits of the number.
-    fn write_out(&mut self, number: u32) -> Result<(), AllocError>
+    fn write_out(&mut self, number: u32)
         ensures { length self.old ≤ length self.new }
     {
-        self.say("\\x")?;
-        self.add(hex_digit(number / 16 % 16))?;
+        self.say("\\x");
+        self.add(hex_digit(number / 16 % 16));
         self.add(hex_digit(number % 16))
     }
 }

@@ -22,12 +22,12 @@ pub(crate) fn tell_same(
         let (path, entry) = &paths[index];
         let (before, earlier) = &paths[index - 1];
         if path == before {
-            line.say("files, entries ")?;
-            line.number(*earlier as u64)?;
-            line.say(" and ")?;
-            line.number(*entry as u64)?;
-            line.say(": the path of both is ")?;
-            line.cite_path(path)?;
+            line.say("files, entries ");
+            line.number(*earlier as u64);
+            line.say(" and ");
+            line.number(*entry as u64);
+            line.say(": the path of both is ");
+            line.cite_path(path);
             return Ok(true);
         }
     }
@@ -48,12 +48,12 @@ pub(crate) fn tell_nested(
         let (path, entry) = &paths[index];
         let (before, earlier) = &paths[index - 1];
         if path.names().starts_with(before.names()) {
-            line.say("files, entry ")?;
-            line.number(*earlier as u64)?;
-            line.say(": ")?;
-            line.cite_path(before)?;
-            line.say(" is a file, and a folder of entry ")?;
-            line.number(*entry as u64)?;
+            line.say("files, entry ");
+            line.number(*earlier as u64);
+            line.say(": ");
+            line.cite_path(before);
+            line.say(" is a file, and a folder of entry ");
+            line.number(*entry as u64);
             return Ok(true);
         }
     }

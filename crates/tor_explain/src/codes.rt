@@ -1,5 +1,5 @@
 //! What codes mean, and what can be done.
-ghost use Rattle.std.specs.Prelude.{◌<◌, IfOk, IsTrue, OnOk, length, string_bytes};
+ghost use Rattle.std.specs.Prelude.{◌<◌, IfOk, IsTrue, length, string_bytes};
 ghost use Rattle.tor_explain.specs.Plain.{IsPlainText, begins_plain};
 
 use crate::line::Line;
@@ -131,44 +131,44 @@ pub fn sums_text<F>(alloc: Global, error: &EngineError<F>) -> Result<String, All
     ensures plain { IfOk result (λ text. IsPlainText (string_bytes text)) }
     ensures some { IfOk result (λ text. 0 < length (string_bytes text)) }
 {
-    let mut line = Line::new(alloc);
+    let mut line = Line::new();
     match error {
         EngineError::Read { file, start, .. } => {
-            say_file(&mut line, *file)?;
+            say_file(&mut line, *file);
             match start {
-                None => line.say("its length cannot be read")?,
+                None => line.say("its length cannot be read"),
                 Some(start) => {
-                    line.say("it cannot be read from byte ")?;
-                    line.number(*start)?;
-                    line.say(" on")?;
+                    line.say("it cannot be read from byte ");
+                    line.number(*start);
+                    line.say(" on");
                 }
             }
-            line.say(": look at its rights, and at the disk")?;
+            line.say(": look at its rights, and at the disk");
         }
         EngineError::Changed { file } => {
-            say_file(&mut line, *file)?;
+            say_file(&mut line, *file);
             line.say(
                 "it changed while it was read, or another stands in its place: try again when none writes to it",
-            )?;
+            );
         }
         EngineError::Missing { file } => {
-            say_file(&mut line, *file)?;
-            line.say("it is not there")?;
+            say_file(&mut line, *file);
+            line.say("it is not there");
         }
-        EngineError::Resources => line.say(NO_MEMORY)?,
+        EngineError::Resources => line.say(NO_MEMORY),
         EngineError::StreamTooLong { file } => {
-            say_file(&mut line, *file)?;
-            line.say("it gave more than 2^50 bytes")?;
+            say_file(&mut line, *file);
+            line.say("it gave more than 2^50 bytes");
         }
     }
-    Ok(line.into_text())
+    line.into_text(alloc)
 }
 
-fn say_file(line: &mut Line, file: u64) -> Result<(), AllocError>
-    ensures { OnOk result (0 < length line.new) }
+fn say_file(line: &mut Line, file: u64)
+    ensures { 0 < length line.new }
 {
-    line.say("file ")?;
-    line.number(file)?;
+    line.say("file ");
+    line.number(file);
     line.say(": ")
 }
 
@@ -180,9 +180,9 @@ pub fn plain_text(alloc: Global, words: &str) -> Result<String, AllocError>
     ensures plain { IfOk result (λ text. IsPlainText (string_bytes text)) }
     ensures some { IfOk result (λ text. 0 < length (string_bytes text)) }
 {
-    let mut line = Line::new(alloc);
-    line.say(words)?;
-    Ok(line.into_text())
+    let mut line = Line::new();
+    line.say(words);
+    line.into_text(alloc)
 }
 
 /// What a V code means, where the bytes cannot be looked at.

@@ -7,39 +7,39 @@ use crate::shape::{Shape, tell_shape};
 use std::alloc::{AllocError, Global};
 use tor_bencode::ItemRef;
 
-pub(crate) fn tell_root(line: &mut Line, root: &ItemRef<'_>) -> Result<bool, AllocError>
-    ensures nothing { result ≡ Ok false → line.new ≡ line.old }
-    ensures told { result ≡ Ok true → 0 < length line.new }
+pub(crate) fn tell_root(line: &mut Line, root: &ItemRef<'_>) -> bool
+    ensures nothing { result ≡ false → line.new ≡ line.old }
+    ensures told { result ≡ true → 0 < length line.new }
 {
     tell_shape(line, "the root", Some(root), Shape::Dictionary)
 }
 
-pub(crate) fn tell_info(line: &mut Line, root: &ItemRef<'_>) -> Result<bool, AllocError>
-    ensures nothing { result ≡ Ok false → line.new ≡ line.old }
-    ensures told { result ≡ Ok true → 0 < length line.new }
+pub(crate) fn tell_info(line: &mut Line, root: &ItemRef<'_>) -> bool
+    ensures nothing { result ≡ false → line.new ≡ line.old }
+    ensures told { result ≡ true → 0 < length line.new }
 {
     tell_shape(line, "info", root.get(b"info"), Shape::Dictionary)
 }
 
-pub(crate) fn tell_meta_version(line: &mut Line, info: &ItemRef<'_>) -> Result<bool, AllocError>
-    ensures nothing { result ≡ Ok false → line.new ≡ line.old }
-    ensures told { result ≡ Ok true → 0 < length line.new }
+pub(crate) fn tell_meta_version(line: &mut Line, info: &ItemRef<'_>) -> bool
+    ensures nothing { result ≡ false → line.new ≡ line.old }
+    ensures told { result ≡ true → 0 < length line.new }
 {
     match info.get(b"meta version") {
-        None => Ok(false),
+        None => false,
         Some(ItemRef::Int(version)) => {
-            line.say("meta version: ")?;
-            line.signed(*version)?;
-            line.say(", where 2 has to be")?;
-            Ok(true)
+            line.say("meta version: ");
+            line.signed(*version);
+            line.say(", where 2 has to be");
+            true
         }
         Some(other) => tell_shape(line, "meta version", Some(other), Shape::Integer),
     }
 }
 
-pub(crate) fn tell_piece_length(line: &mut Line, info: &ItemRef<'_>) -> Result<bool, AllocError>
-    ensures nothing { result ≡ Ok false → line.new ≡ line.old }
-    ensures told { result ≡ Ok true → 0 < length line.new }
+pub(crate) fn tell_piece_length(line: &mut Line, info: &ItemRef<'_>) -> bool
+    ensures nothing { result ≡ false → line.new ≡ line.old }
+    ensures told { result ≡ true → 0 < length line.new }
 {
     let Some(ItemRef::Int(length)) = info.get(b"piece length") else {
         return tell_shape(
@@ -49,14 +49,14 @@ pub(crate) fn tell_piece_length(line: &mut Line, info: &ItemRef<'_>) -> Result<b
             Shape::Integer,
         );
     };
-    line.say("piece length: ")?;
-    line.signed(*length)?;
+    line.say("piece length: ");
+    line.signed(*length);
     line.say(if has_v2(info) {
         ", where a power of two from 16384 to 1073741824 has to be"
     } else {
         ", where a number from 1 to 1073741824 has to be"
-    })?;
-    Ok(true)
+    });
+    true
 }
 
 /// Whether a torrent has a v2 side.
@@ -78,25 +78,25 @@ pub(crate) fn tell_own_name(
     ensures told { result ≡ Ok true → 0 < length line.new }
 {
     let Some(ItemRef::Bytes(name)) = info.get(b"name") else {
-        return tell_shape(line, "name", info.get(b"name"), Shape::Text);
+        return Ok(tell_shape(line, "name", info.get(b"name"), Shape::Text));
     };
-    let mut reason = Line::new(alloc);
+    let mut reason = Line::new();
     if !tell_no_name(alloc, &mut reason, name)? {
         return Ok(false);
     }
-    line.say("name: ")?;
-    line.join(&reason)?;
+    line.say("name: ");
+    line.join(&reason);
     Ok(true)
 }
 
-pub(crate) fn tell_length_and_files(line: &mut Line, info: &ItemRef<'_>) -> Result<bool, AllocError>
-    ensures nothing { result ≡ Ok false → line.new ≡ line.old }
-    ensures told { result ≡ Ok true → 0 < length line.new }
+pub(crate) fn tell_length_and_files(line: &mut Line, info: &ItemRef<'_>) -> bool
+    ensures nothing { result ≡ false → line.new ≡ line.old }
+    ensures told { result ≡ true → 0 < length line.new }
 {
     line.say(if info.get(b"length").is_some() {
         "info: length and files are both there, where one of them has to be"
     } else {
         "info: neither length nor files is there, where one of them has to be"
-    })?;
-    Ok(true)
+    });
+    true
 }

@@ -34,13 +34,13 @@ pub(crate) fn tell_no_layers(
     ensures told { result ≡ Ok true → 0 < length line.new }
 {
     if let Some(layers) = root.get(b"piece layers") {
-        return tell_shape(line, "piece layers", Some(layers), Shape::Dictionary);
+        return Ok(tell_shape(line, "piece layers", Some(layers), Shape::Dictionary));
     }
     'files: for file in &files_of_tree(alloc, info)? {
         if file.length > piece_length_of(info) {
-            line.say("piece layers: not there, and ")?;
-            line.cite_path(&file.path)?;
-            line.say(" is longer than a piece")?;
+            line.say("piece layers: not there, and ");
+            line.cite_path(&file.path);
+            line.say(" is longer than a piece");
             return Ok(true);
         }
     }
@@ -65,7 +65,7 @@ pub(crate) fn tell_layer(
     let mut right = vec![in alloc; false; layers.count_keys()]?;
     'files: for file in &files_of_tree(alloc, info)? {
         if file.length > piece_length_of(info)
-            && tell_file(line, lack, layers, piece_length_of(info), file, &mut right)?
+            && tell_file(line, lack, layers, piece_length_of(info), file, &mut right)
         {
             return Ok(true);
         }
@@ -104,11 +104,11 @@ fn tell_file(
     piece_length: u64,
     file: &TreeFile,
     right: &mut [bool],
-) -> Result<bool, AllocError>
+) -> bool
     requires rising { HasRisingKeys (view layers.now) }
     requires some { 0 < piece_length }
-    ensures nothing { result ≡ Ok false → line.new ≡ line.old }
-    ensures told { result ≡ Ok true → 0 < length line.new }
+    ensures nothing { result ≡ false → line.new ≡ line.old }
+    ensures told { result ≡ true → 0 < length line.new }
 {
     let root: &[u8] = match &file.root {
         Some(root) => root.as_slice(),
@@ -118,7 +118,7 @@ fn tell_file(
         return tell_absent(line, file);
     };
     match lack {
-        Lack::Absent => Ok(false),
+        Lack::Absent => false,
         Lack::Length => tell_length(
             line,
             file,
@@ -127,53 +127,53 @@ fn tell_file(
         ),
         Lack::Root => {
             if right.get(index) == Some(&true) {
-                return Ok(false);
+                return false;
             }
             if is_root_of(text, piece_length, root) {
                 if index < right.len() {
                     right[index] = true;
                 }
-                return Ok(false);
+                return false;
             }
             tell_other_root(line, file)
         }
     }
 }
 
-fn tell_absent(line: &mut Line, file: &TreeFile) -> Result<bool, AllocError>
-    ensures nothing { result ≡ Ok false → line.new ≡ line.old }
-    ensures told { result ≡ Ok true → 0 < length line.new }
+fn tell_absent(line: &mut Line, file: &TreeFile) -> bool
+    ensures nothing { result ≡ false → line.new ≡ line.old }
+    ensures told { result ≡ true → 0 < length line.new }
 {
-    line.say("piece layers: no hash list for the root of ")?;
-    line.cite_path(&file.path)?;
-    Ok(true)
+    line.say("piece layers: no hash list for the root of ");
+    line.cite_path(&file.path);
+    true
 }
 
-fn tell_length(line: &mut Line, file: &TreeFile, size: u64, pieces: u64) -> Result<bool, AllocError>
-    ensures nothing { result ≡ Ok false → line.new ≡ line.old }
-    ensures told { result ≡ Ok true → 0 < length line.new }
+fn tell_length(line: &mut Line, file: &TreeFile, size: u64, pieces: u64) -> bool
+    ensures nothing { result ≡ false → line.new ≡ line.old }
+    ensures told { result ≡ true → 0 < length line.new }
 {
     if u128::from(size) == 32 * u128::from(pieces) {
-        return Ok(false);
+        return false;
     }
-    line.say("piece layers: ")?;
-    line.number(size)?;
-    line.say(" bytes for ")?;
-    line.cite_path(&file.path)?;
-    line.say(", where 32 for each of ")?;
-    line.number(pieces)?;
-    line.say(" pieces have to be")?;
-    Ok(true)
+    line.say("piece layers: ");
+    line.number(size);
+    line.say(" bytes for ");
+    line.cite_path(&file.path);
+    line.say(", where 32 for each of ");
+    line.number(pieces);
+    line.say(" pieces have to be");
+    true
 }
 
-fn tell_other_root(line: &mut Line, file: &TreeFile) -> Result<bool, AllocError>
-    ensures nothing { result ≡ Ok false → line.new ≡ line.old }
-    ensures told { result ≡ Ok true → 0 < length line.new }
+fn tell_other_root(line: &mut Line, file: &TreeFile) -> bool
+    ensures nothing { result ≡ false → line.new ≡ line.old }
+    ensures told { result ≡ true → 0 < length line.new }
 {
-    line.say("piece layers: the hashes for ")?;
-    line.cite_path(&file.path)?;
-    line.say(" do not give its pieces root")?;
-    Ok(true)
+    line.say("piece layers: the hashes for ");
+    line.cite_path(&file.path);
+    line.say(" do not give its pieces root");
+    true
 }
 
 // Whether the hashes of this text give the root.

@@ -2,6 +2,7 @@
 ghost use Rattle.std.specs.Prelude.{◌≡◌};
 ghost use Rattle.tor_explain.specs.Plain.{is_control};
 
+use arrayvec::ArrayString;
 use itoa::Buffer;
 use std::alloc::{AllocError, Global};
 use std::marker::Model;
@@ -12,42 +13,43 @@ pub const MAX_TEXT: usize = 1024;
 /// How many bytes of a name or a path are cited, before two dots stand for the rest.
 pub(crate) const MAX_CITED: usize = 240;
 
-/// A text without control bytes, of at most `MAX_TEXT` bytes. Contracts see its bytes.
+/// A text without control bytes, of at most `MAX_TEXT` bytes, for which no memory is asked before it is handed out.
+/// Contracts see its bytes.
 #[derive(Drop)]
 pub(crate) struct Line {
-    text: String,
+    text: ArrayString<MAX_TEXT>,
 }
 
 impl Model for Line {
-    ghost use Rattle.std.specs.Prelude.{ℕ, List, string_bytes};
+    ghost use Rattle.std.specs.Prelude.{ℕ, List};
     ghost use Rattle.tor_explain.specs.Plain.{IsPlainText};
 
     ghost Value = { List ℕ };
 
-    ghost view = { λ line. string_bytes line.text };
+    ghost view = { λ line. line.text.bytes };
 
-    ghost invariant = { λ line. IsPlainText (string_bytes line.text) };
+    ghost invariant = { λ line. IsPlainText line.text.bytes };
 }
 
 impl Line {
-    ghost use Rattle.std.specs.Prelude.{◌<◌, ◌≡◌, ◌≤◌, [], false, IsTrue, OnOk, length, string_bytes};
+    ghost use Rattle.std.specs.Prelude.{◌<◌, ◌≡◌, ◌≤◌, [], false, IfOk, IsTrue, length, string_bytes};
     ghost use Rattle.tor_explain.specs.Plain.{IsPlainText, begins_plain, is_control};
 
     /// An empty text.
-    pub fn new(alloc: Global) -> Line
+    pub fn new() -> Line
         ensures { result ≡ [] }
     {
         Line {
-            text: String::new(alloc),
+            text: ArrayString::new(),
         }
     }
 
     /// The text.
-    pub fn into_text(self) -> String
-        ensures same { string_bytes result ≡ self }
-        ensures plain { IsPlainText (string_bytes result) }
+    pub fn into_text(self, alloc: Global) -> Result<String, AllocError>
+        ensures same { IfOk result (λ text. string_bytes text ≡ self) }
+        ensures plain { IfOk result (λ text. IsPlainText (string_bytes text)) }
     {
-        self.text
+        String::from_str(alloc, self.text.as_str())
     }
 
     /// How many bytes it has.
@@ -56,53 +58,52 @@ impl Line {
     }
 
     /// Adds a character, but for one that is a control byte or does not fit.
-    pub fn add(&mut self, c: char) -> Result<(), AllocError>
+    pub fn add(&mut self, c: char)
         ensures longer { length self.old ≤ length self.new }
-        ensures said { OnOk result (is_control c ≡ false → 0 < length self.new) }
+        ensures said { is_control c ≡ false → 0 < length self.new }
     {
-        if is_control(c) || self.text.as_bytes().len() > MAX_TEXT - 4 {
-            return Ok(());
+        if is_control(c) || self.text.len() > MAX_TEXT - 4 {
+            return;
         }
-        self.text.push(c)
+        let _ = self.text.try_push(c);
     }
 
     /// Adds words of this program's own, which are of ASCII.
-    pub fn say(&mut self, words: &str) -> Result<(), AllocError>
+    pub fn say(&mut self, words: &str)
         ensures longer { length self.old ≤ length self.new }
-        ensures said { OnOk result (IsTrue (begins_plain words.now) → 0 < length self.new) }
+        ensures said { IsTrue (begins_plain words.now) → 0 < length self.new }
     {
         'words: for byte in words.as_bytes() {
-            self.add(*byte as char)?;
+            self.add(*byte as char);
         }
-        Ok(())
     }
 
     /// Adds another text.
-    pub fn join(&mut self, other: &Line) -> Result<(), AllocError>
+    pub fn join(&mut self, other: &Line)
         ensures longer { length self.old ≤ length self.new }
-        ensures said { OnOk result (0 < length other.now → 0 < length self.new) }
+        ensures said { 0 < length other.now → 0 < length self.new }
     {
-        if other.text.as_bytes().len() <= MAX_TEXT - self.text.as_bytes().len() {
-            return self.text.push_str(&other.text);
+        if other.text.len() <= self.text.remaining_capacity() {
+            self.text.push_str(other.text.as_str());
+            return;
         }
-        'characters: for c in other.text.chars() {
-            self.add(c)?;
+        'characters: for c in other.text.as_str().chars() {
+            self.add(c);
         }
-        Ok(())
     }
 
     /// Adds a number.
-    pub fn number(&mut self, n: u64) -> Result<(), AllocError>
+    pub fn number(&mut self, n: u64)
         ensures { length self.old ≤ length self.new }
     {
-        self.say(Buffer::new().format(n))
+        self.say(Buffer::new().format(n));
     }
 
     /// Adds a number with its sign.
-    pub fn signed(&mut self, n: i64) -> Result<(), AllocError>
+    pub fn signed(&mut self, n: i64)
         ensures { length self.old ≤ length self.new }
     {
-        self.say(Buffer::new().format(n))
+        self.say(Buffer::new().format(n));
     }
 }
 

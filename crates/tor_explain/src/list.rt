@@ -1,5 +1,5 @@
 //! What is wrong with the files of a v1 side, entry by entry.
-ghost use Rattle.std.specs.Prelude.{◌<◌, ◌≡◌, false, true, OnOk, length};
+ghost use Rattle.std.specs.Prelude.{◌<◌, ◌≡◌, false, true, length};
 
 use crate::line::Line;
 use crate::names::tell_no_name;
@@ -27,16 +27,16 @@ pub(crate) fn tell_list(
     ensures told { result ≡ Ok true → 0 < length line.new }
 {
     let Some(files) = info.get(b"files") else {
-        return tell_properties(line, question, info);
+        return Ok(tell_properties(line, question, info));
     };
     let ItemRef::List(entries) = files else {
-        return tell_shape(line, "files", Some(files), Shape::List);
+        return Ok(tell_shape(line, "files", Some(files), Shape::List));
     };
     'entries: for (index, entry) in entries.iter().enumerate() {
-        let mut reason = Line::new(alloc);
+        let mut reason = Line::new();
         if tell_entry(alloc, &mut reason, question, entry)? {
-            say_entry(line, index)?;
-            line.join(&reason)?;
+            say_entry(line, index);
+            line.join(&reason);
             return Ok(true);
         }
     }
@@ -44,11 +44,11 @@ pub(crate) fn tell_list(
 }
 
 /// Names an entry of `files`.
-pub(crate) fn say_entry(line: &mut Line, index: usize) -> Result<(), AllocError>
-    ensures { OnOk result (0 < length line.new) }
+pub(crate) fn say_entry(line: &mut Line, index: usize)
+    ensures { 0 < length line.new }
 {
-    line.say("files, entry ")?;
-    line.number(index as u64)?;
+    line.say("files, entry ");
+    line.number(index as u64);
     line.say(": ")
 }
 
@@ -62,10 +62,10 @@ fn tell_entry(
     ensures told { result ≡ Ok true → 0 < length line.new }
 {
     if question != Question::Shape {
-        return tell_properties(line, question, entry);
+        return Ok(tell_properties(line, question, entry));
     }
-    if tell_shape(line, "", Some(entry), Shape::Dictionary)?
-        || tell_properties(line, question, entry)?
+    if tell_shape(line, "", Some(entry), Shape::Dictionary)
+        || tell_properties(line, question, entry)
     {
         return Ok(true);
     }
@@ -81,17 +81,17 @@ fn tell_path(alloc: Global, line: &mut Line, path: Option<&ItemRef<'_>>) -> Resu
     ensures told { result ≡ Ok true → 0 < length line.new }
 {
     let Some(ItemRef::List(names)) = path else {
-        return tell_shape(line, "path", path, Shape::List);
+        return Ok(tell_shape(line, "path", path, Shape::List));
     };
     if names.is_empty() {
-        line.say("path: an empty list, where one name at least has to be")?;
+        line.say("path: an empty list, where one name at least has to be");
         return Ok(true);
     }
     'names: for name in names {
-        let mut reason = Line::new(alloc);
+        let mut reason = Line::new();
         if tell_step(alloc, &mut reason, name)? {
-            line.say("path, ")?;
-            line.join(&reason)?;
+            line.say("path, ");
+            line.join(&reason);
             return Ok(true);
         }
     }
@@ -105,23 +105,23 @@ fn tell_step(alloc: Global, line: &mut Line, name: &ItemRef<'_>) -> Result<bool,
 {
     match name {
         ItemRef::Bytes(bytes) => tell_no_name(alloc, line, bytes),
-        other => tell_shape(line, "a name", Some(other), Shape::Text),
+        other => Ok(tell_shape(line, "a name", Some(other), Shape::Text)),
     }
 }
 
 /// Tells that no entry is a file.
-pub(crate) fn tell_no_entry(line: &mut Line, info: &ItemRef<'_>) -> Result<bool, AllocError>
-    ensures nothing { result ≡ Ok false → line.new ≡ line.old }
-    ensures told { result ≡ Ok true → 0 < length line.new }
+pub(crate) fn tell_no_entry(line: &mut Line, info: &ItemRef<'_>) -> bool
+    ensures nothing { result ≡ false → line.new ≡ line.old }
+    ensures told { result ≡ true → 0 < length line.new }
 {
     let Some(entries) = entries_of(info) else {
-        return Ok(false);
+        return false;
     };
     'entries: for entry in entries {
         if !is_padding(entry) {
-            return Ok(false);
+            return false;
         }
     }
-    line.say("files: no entry is a file, where one at least has to be")?;
-    Ok(true)
+    line.say("files: no entry is a file, where one at least has to be");
+    true
 }

@@ -1,5 +1,5 @@
 //! Why a name is none.
-ghost use Rattle.std.specs.Prelude.{◌<◌, ◌≡◌, false, true, IfOk, OnOk, length, string_bytes};
+ghost use Rattle.std.specs.Prelude.{◌<◌, ◌≡◌, false, true, IfOk, length, string_bytes};
 ghost use Rattle.tor_explain.specs.Plain.{IsPlainText};
 
 use crate::line::Line;
@@ -12,9 +12,9 @@ pub fn name_text(alloc: Global, word: &[u8], fault: &NameError) -> Result<String
     ensures plain { IfOk result (λ text. IsPlainText (string_bytes text)) }
     ensures some { IfOk result (λ text. 0 < length (string_bytes text)) }
 {
-    let mut line = Line::new(alloc);
-    tell_name(&mut line, word, fault)?;
-    Ok(line.into_text())
+    let mut line = Line::new();
+    tell_name(&mut line, word, fault);
+    line.into_text(alloc)
 }
 
 /// Tells why the bytes are no name; nothing if they are one.
@@ -26,22 +26,22 @@ pub(crate) fn tell_no_name(alloc: Global, line: &mut Line, word: &[u8]) -> Resul
         Ok(_) => Ok(false),
         Err(NameError::Memory) => Err(AllocError),
         Err(fault) => {
-            tell_name(line, word, &fault)?;
+            tell_name(line, word, &fault);
             Ok(true)
         }
     }
 }
 
-pub(crate) fn tell_name(line: &mut Line, word: &[u8], fault: &NameError) -> Result<(), AllocError>
-    ensures { OnOk result (0 < length line.new) }
+pub(crate) fn tell_name(line: &mut Line, word: &[u8], fault: &NameError)
+    ensures { 0 < length line.new }
 {
     if word.is_empty() {
-        line.say("the empty name")?;
+        line.say("the empty name");
     } else {
-        line.cite(word)?;
+        line.cite(word);
     }
-    line.say(" is refused as ")?;
-    line.say(words_of(fault))?;
+    line.say(" is refused as ");
+    line.say(words_of(fault));
     let place = match fault {
         NameError::Slash => word.iter().position(|byte| *byte == b'/'),
         NameError::Nul => word.iter().position(|byte| *byte == 0),
@@ -49,10 +49,9 @@ pub(crate) fn tell_name(line: &mut Line, word: &[u8], fault: &NameError) -> Resu
         _ => None,
     };
     if let Some(index) = place {
-        line.say(", at its byte ")?;
-        line.number(index as u64)?;
+        line.say(", at its byte ");
+        line.number(index as u64);
     }
-    Ok(())
 }
 
 // Where the bytes stop to be UTF-8.

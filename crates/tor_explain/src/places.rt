@@ -14,14 +14,14 @@ pub fn file_text(alloc: Global, file: u64, path: &FilePath, why: &str) -> Result
     ensures plain { IfOk result (λ text. IsPlainText (string_bytes text)) }
     ensures some { IfOk result (λ text. 0 < length (string_bytes text)) }
 {
-    let mut line = Line::new(alloc);
-    line.say("file ")?;
-    line.number(file)?;
-    line.say(" is ")?;
-    line.cite_path(path)?;
-    line.say(": ")?;
-    line.cite(why.as_bytes())?;
-    Ok(line.into_text())
+    let mut line = Line::new();
+    line.say("file ");
+    line.number(file);
+    line.say(" is ");
+    line.cite_path(path);
+    line.say(": ");
+    line.cite(why.as_bytes());
+    line.into_text(alloc)
 }
 
 /// A place of the system, and what is wrong with it: `films/x: No such file or directory (os error 2)`.
@@ -29,11 +29,11 @@ pub fn place_text(alloc: Global, place: &str, why: &str) -> Result<String, Alloc
     ensures plain { IfOk result (λ text. IsPlainText (string_bytes text)) }
     ensures some { IfOk result (λ text. 0 < length (string_bytes text)) }
 {
-    let mut line = Line::new(alloc);
-    line.cite(place.as_bytes())?;
-    line.say(": ")?;
-    line.cite(why.as_bytes())?;
-    Ok(line.into_text())
+    let mut line = Line::new();
+    line.cite(place.as_bytes());
+    line.say(": ");
+    line.cite(why.as_bytes());
+    line.into_text(alloc)
 }
 
 /// A line of a file of lines, counted from 1, and what is wrong with it.
@@ -47,15 +47,15 @@ pub fn line_text(
     ensures plain { IfOk result (λ text. IsPlainText (string_bytes text)) }
     ensures some { IfOk result (λ text. 0 < length (string_bytes text)) }
 {
-    let mut line = Line::new(alloc);
-    line.cite(place.as_bytes())?;
-    line.say(", line ")?;
-    line.number(number)?;
-    line.say(": ")?;
-    line.cite(bytes)?;
-    line.say(": ")?;
-    line.cite(why.as_bytes())?;
-    Ok(line.into_text())
+    let mut line = Line::new();
+    line.cite(place.as_bytes());
+    line.say(", line ");
+    line.number(number);
+    line.say(": ");
+    line.cite(bytes);
+    line.say(": ");
+    line.cite(why.as_bytes());
+    line.into_text(alloc)
 }
 
 /// A path of a list of paths, counted from 1, which has this part that is no name.
@@ -69,13 +69,13 @@ pub fn entry_text(
     ensures plain { IfOk result (λ text. IsPlainText (string_bytes text)) }
     ensures some { IfOk result (λ text. 0 < length (string_bytes text)) }
 {
-    let mut line = Line::new(alloc);
-    line.cite(place.as_bytes())?;
-    line.say(", path ")?;
-    line.number(number)?;
-    line.say(": ")?;
-    tell_name(&mut line, part, fault)?;
-    Ok(line.into_text())
+    let mut line = Line::new();
+    line.cite(place.as_bytes());
+    line.say(", path ");
+    line.number(number);
+    line.say(": ");
+    tell_name(&mut line, part, fault);
+    line.into_text(alloc)
 }
 
 /// What of a folder is not taken, what it is, and what can be done about it.
@@ -83,30 +83,31 @@ pub fn refused_text(alloc: Global, refused: &Refused) -> Result<String, AllocErr
     ensures plain { IfOk result (λ text. IsPlainText (string_bytes text)) }
     ensures some { IfOk result (λ text. 0 < length (string_bytes text)) }
 {
-    let mut line = Line::new(alloc);
-    line.cite(&refused.path)?;
+    let mut line = Line::new();
+    line.cite(&refused.path);
     match &refused.refusal {
         Refusal::NotUtf8 => line.say(
             " is no text in UTF-8: rename it, or leave it out with --files-from",
-        )?,
+        ),
         Refusal::NotRegular(kind) => {
-            line.say(words_of_kind(*kind))?;
-            line.say(": leave it out with --files-from")?;
+            line.say(words_of_kind(*kind));
+            line.say(": leave it out with --files-from");
         }
-        Refusal::TooDeep => line.say(" has more than 64 names: leave it out with --files-from")?,
-        Refusal::Missing => line.say(" is not there")?,
+        Refusal::TooDeep => line.say(" has more than 64 names: leave it out with --files-from"),
+        Refusal::Missing => line.say(" is not there"),
         Refusal::System(fault) => say_reason(alloc, &mut line, fault)?,
     }
-    Ok(line.into_text())
+    line.into_text(alloc)
 }
 
 /// Says why the system refused.
 fn say_reason(alloc: Global, line: &mut Line, fault: &io::Error) -> Result<(), AllocError>
     ensures { OnOk result (0 < length line.new) }
 {
-    line.say(": ")?;
+    line.say(": ");
     let reason = format!(in alloc; "{fault}")?;
-    line.cite(reason.as_bytes())
+    line.cite(reason.as_bytes());
+    Ok(())
 }
 
 fn words_of_kind(kind: OtherKind) -> &'static str

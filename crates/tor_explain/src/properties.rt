@@ -3,7 +3,6 @@ ghost use Rattle.std.specs.Prelude.{◌<◌, ◌≡◌, false, true, length};
 
 use crate::line::Line;
 use crate::shape::{Shape, tell_shape};
-use std::alloc::AllocError;
 use tor_bencode::ItemRef;
 
 /// The greatest length of a file, in bytes.
@@ -27,13 +26,9 @@ pub(crate) enum Question {
 }
 
 /// Tells what is wrong with what describes a file.
-pub(crate) fn tell_properties(
-    line: &mut Line,
-    question: Question,
-    file: &ItemRef<'_>,
-) -> Result<bool, AllocError>
-    ensures nothing { result ≡ Ok false → line.new ≡ line.old }
-    ensures told { result ≡ Ok true → 0 < length line.new }
+pub(crate) fn tell_properties(line: &mut Line, question: Question, file: &ItemRef<'_>) -> bool
+    ensures nothing { result ≡ false → line.new ≡ line.old }
+    ensures told { result ≡ true → 0 < length line.new }
 {
     match question {
         Question::Shape => tell_misshaped(line, file),
@@ -44,73 +39,68 @@ pub(crate) fn tell_properties(
         }
         Question::Symlink => tell_link(line, file),
         Question::Root => tell_no_root(line, file),
-        Question::Mixed => Ok(false),
+        Question::Mixed => false,
     }
 }
 
-fn tell_misshaped(line: &mut Line, file: &ItemRef<'_>) -> Result<bool, AllocError>
-    ensures nothing { result ≡ Ok false → line.new ≡ line.old }
-    ensures told { result ≡ Ok true → 0 < length line.new }
+fn tell_misshaped(line: &mut Line, file: &ItemRef<'_>) -> bool
+    ensures nothing { result ≡ false → line.new ≡ line.old }
+    ensures told { result ≡ true → 0 < length line.new }
 {
-    if tell_shape(line, "length", file.get(b"length"), Shape::Integer)? {
-        return Ok(true);
+    if tell_shape(line, "length", file.get(b"length"), Shape::Integer) {
+        return true;
     }
     match file.get(b"attr") {
-        None => Ok(false),
+        None => false,
         letters => tell_shape(line, "attr", letters, Shape::Text),
     }
 }
 
-fn tell_length(
-    line: &mut Line,
-    file: &ItemRef<'_>,
-    is_wrong: bool,
-    how: &str,
-) -> Result<bool, AllocError>
-    ensures nothing { result ≡ Ok false → line.new ≡ line.old }
-    ensures told { result ≡ Ok true → 0 < length line.new }
+fn tell_length(line: &mut Line, file: &ItemRef<'_>, is_wrong: bool, how: &str) -> bool
+    ensures nothing { result ≡ false → line.new ≡ line.old }
+    ensures told { result ≡ true → 0 < length line.new }
 {
     if !is_wrong {
-        return Ok(false);
+        return false;
     }
-    line.say("length: ")?;
-    line.signed(length_of(file))?;
-    line.say(", which is ")?;
-    line.say(how)?;
-    Ok(true)
+    line.say("length: ");
+    line.signed(length_of(file));
+    line.say(", which is ");
+    line.say(how);
+    true
 }
 
-fn tell_link(line: &mut Line, file: &ItemRef<'_>) -> Result<bool, AllocError>
-    ensures nothing { result ≡ Ok false → line.new ≡ line.old }
-    ensures told { result ≡ Ok true → 0 < length line.new }
+fn tell_link(line: &mut Line, file: &ItemRef<'_>) -> bool
+    ensures nothing { result ≡ false → line.new ≡ line.old }
+    ensures told { result ≡ true → 0 < length line.new }
 {
     let letters = letters_of(file);
     if !letters.contains(&b'l') {
-        return Ok(false);
+        return false;
     }
-    line.say("attr: ")?;
-    line.cite(letters)?;
-    line.say(", whose l is a symbolic link")?;
-    Ok(true)
+    line.say("attr: ");
+    line.cite(letters);
+    line.say(", whose l is a symbolic link");
+    true
 }
 
-fn tell_no_root(line: &mut Line, file: &ItemRef<'_>) -> Result<bool, AllocError>
-    ensures nothing { result ≡ Ok false → line.new ≡ line.old }
-    ensures told { result ≡ Ok true → 0 < length line.new }
+fn tell_no_root(line: &mut Line, file: &ItemRef<'_>) -> bool
+    ensures nothing { result ≡ false → line.new ≡ line.old }
+    ensures told { result ≡ true → 0 < length line.new }
 {
     if length_of(file) <= 0 {
-        return Ok(false);
+        return false;
     }
     let Some(ItemRef::Bytes(root)) = file.get(b"pieces root") else {
         return tell_shape(line, "pieces root", file.get(b"pieces root"), Shape::Text);
     };
     if root.len() == 32 {
-        return Ok(false);
+        return false;
     }
-    line.say("pieces root: ")?;
-    line.number(root.len() as u64)?;
-    line.say(" bytes, where 32 have to be")?;
-    Ok(true)
+    line.say("pieces root: ");
+    line.number(root.len() as u64);
+    line.say(" bytes, where 32 have to be");
+    true
 }
 
 /// The `length`; 0 if it is no integer.

@@ -28,11 +28,11 @@ pub fn refusal_text(alloc: Global, torrent: &[u8], refusal: &Refusal) -> Result<
     ensures plain { IfOk result (λ text. IsPlainText (string_bytes text)) }
     ensures some { IfOk result (λ text. 0 < length (string_bytes text)) }
 {
-    let mut line = Line::new(alloc);
+    let mut line = Line::new();
     if !tell(alloc, &mut line, torrent, refusal)? {
-        line.say(words_of_refusal(refusal))?;
+        line.say(words_of_refusal(refusal));
     }
-    Ok(line.into_text())
+    line.into_text(alloc)
 }
 
 fn tell(
@@ -46,7 +46,7 @@ fn tell(
 {
     match refusal {
         Refusal::Bencode { fault, offset } => {
-            tell_fault(line, torrent, *fault, *offset)?;
+            tell_fault(line, torrent, *fault, *offset);
             return Ok(true);
         }
         Refusal::Memory => return Ok(false),
@@ -71,13 +71,13 @@ fn tell_of_root(
 {
     let Some(info) = root.get(b"info") else {
         return match refusal {
-            Refusal::RootShape => tell_root(line, root),
-            _ => tell_info(line, root),
+            Refusal::RootShape => Ok(tell_root(line, root)),
+            _ => Ok(tell_info(line, root)),
         };
     };
     match refusal {
-        Refusal::RootShape => tell_root(line, root),
-        Refusal::InfoShape => tell_info(line, root),
+        Refusal::RootShape => Ok(tell_root(line, root)),
+        Refusal::InfoShape => Ok(tell_info(line, root)),
         Refusal::LayersAbsent => tell_no_layers(alloc, line, root, info),
         Refusal::LayerAbsent => tell_layer(alloc, line, Lack::Absent, root, info),
         Refusal::LayerLength => tell_layer(alloc, line, Lack::Length, root, info),
@@ -96,22 +96,22 @@ fn tell_of_info(
     ensures told { result ≡ Ok true → 0 < length line.new }
 {
     match refusal {
-        Refusal::MetaVersion => tell_meta_version(line, info),
-        Refusal::PieceLength => tell_piece_length(line, info),
+        Refusal::MetaVersion => Ok(tell_meta_version(line, info)),
+        Refusal::PieceLength => Ok(tell_piece_length(line, info)),
         Refusal::Name => tell_own_name(alloc, line, info),
-        Refusal::LengthAndFiles => tell_length_and_files(line, info),
+        Refusal::LengthAndFiles => Ok(tell_length_and_files(line, info)),
         Refusal::FileShape => tell_file(alloc, line, Question::Shape, info),
         Refusal::FileLength => tell_file(alloc, line, Question::Length, info),
         Refusal::Duplicate => tell_same(alloc, line, info),
         Refusal::FileAndFolder => tell_nested(alloc, line, info),
-        Refusal::NoFiles => tell_no_file(line, info),
+        Refusal::NoFiles => Ok(tell_no_file(line, info)),
         Refusal::TooLarge => tell_too_large(alloc, line, info),
         Refusal::Symlink => tell_file(alloc, line, Question::Symlink, info),
-        Refusal::PiecesLength => tell_pieces(line, info),
+        Refusal::PiecesLength => Ok(tell_pieces(line, info)),
         Refusal::MixedNode => tell_tree(alloc, line, Question::Mixed, info),
         Refusal::RootHash => tell_tree(alloc, line, Question::Root, info),
         Refusal::FilesDiffer => tell_differing(alloc, line, info),
-        Refusal::Alignment => tell_alignment(line, info),
+        Refusal::Alignment => Ok(tell_alignment(line, info)),
         Refusal::AttrDiffer => tell_letters(alloc, line, info),
         _ => Ok(false),
     }
@@ -136,15 +136,15 @@ fn tell_file(
     tell_tree(alloc, line, question, info)
 }
 
-fn tell_no_file(line: &mut Line, info: &ItemRef<'_>) -> Result<bool, AllocError>
-    ensures nothing { result ≡ Ok false → line.new ≡ line.old }
-    ensures told { result ≡ Ok true → 0 < length line.new }
+fn tell_no_file(line: &mut Line, info: &ItemRef<'_>) -> bool
+    ensures nothing { result ≡ false → line.new ≡ line.old }
+    ensures told { result ≡ true → 0 < length line.new }
 {
-    if has_v1(info) && tell_no_entry(line, info)? {
-        return Ok(true);
+    if has_v1(info) && tell_no_entry(line, info) {
+        return true;
     }
-    line.say("file tree: no file, where one at least has to be")?;
-    Ok(true)
+    line.say("file tree: no file, where one at least has to be");
+    true
 }
 
 fn tell_too_large(alloc: Global, line: &mut Line, info: &ItemRef<'_>) -> Result<bool, AllocError>
@@ -154,5 +154,5 @@ fn tell_too_large(alloc: Global, line: &mut Line, info: &ItemRef<'_>) -> Result<
     if tell_file(alloc, line, Question::TooLarge, info)? {
         return Ok(true);
     }
-    tell_large(line)
+    Ok(tell_large(line))
 }

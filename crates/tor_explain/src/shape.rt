@@ -2,7 +2,6 @@
 ghost use Rattle.std.specs.Prelude.{◌<◌, ◌≡◌, false, true, length};
 
 use crate::line::Line;
-use std::alloc::AllocError;
 use tor_bencode::ItemRef;
 
 /// What a value of a torrent is.
@@ -41,20 +40,20 @@ pub(crate) fn tell_shape(
     key: &str,
     found: Option<&ItemRef<'_>>,
     wanted: Shape,
-) -> Result<bool, AllocError>
-    ensures nothing { result ≡ Ok false → line.new ≡ line.old }
-    ensures told { result ≡ Ok true → 0 < length line.new }
+) -> bool
+    ensures nothing { result ≡ false → line.new ≡ line.old }
+    ensures told { result ≡ true → 0 < length line.new }
 {
     let is = match found {
         None => "not there",
-        Some(item) if Shape::of(item) == wanted => return Ok(false),
+        Some(item) if Shape::of(item) == wanted => return false,
         Some(item) => Shape::of(item).words(),
     };
-    line.say(key)?;
-    line.say(if key.is_empty() { "" } else { ": " })?;
-    line.say(is)?;
-    line.say(", where ")?;
-    line.say(wanted.words())?;
-    line.say(" has to be")?;
-    Ok(true)
+    line.say(key);
+    line.say(if key.is_empty() { "" } else { ": " });
+    line.say(is);
+    line.say(", where ");
+    line.say(wanted.words());
+    line.say(" has to be");
+    true
 }

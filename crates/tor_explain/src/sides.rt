@@ -22,7 +22,7 @@ pub(crate) fn tell_differing(
 {
     let files = files_of_tree(alloc, info)?;
     let Some(entries) = entries_of(info) else {
-        line.say("file tree: it has to have one file alone, of the name and the length in info")?;
+        line.say("file tree: it has to have one file alone, of the name and the length in info");
         return Ok(true);
     };
     let mut rest = files.iter();
@@ -30,14 +30,14 @@ pub(crate) fn tell_differing(
         if is_padding(entry) {
             continue;
         }
-        let mut reason = Line::new(alloc);
+        let mut reason = Line::new();
         if tell_other(alloc, &mut reason, entry, rest.next())? {
-            say_entry(line, index)?;
-            line.join(&reason)?;
+            say_entry(line, index);
+            line.join(&reason);
             return Ok(true);
         }
     }
-    tell_left(line, rest.next())
+    Ok(tell_left(line, rest.next()))
 }
 
 // Tells that an entry is not the file of the tree that has its place.
@@ -59,43 +59,43 @@ fn tell_other(
             return Ok(false);
         }
     }
-    line.cite_path(&path)?;
-    line.say(" of ")?;
-    line.number(size)?;
-    line.say(" bytes, where file tree has ")?;
+    line.cite_path(&path);
+    line.say(" of ");
+    line.number(size);
+    line.say(" bytes, where file tree has ");
     match file {
         Some(file) => {
-            line.cite_path(&file.path)?;
-            line.say(" of ")?;
-            line.number(file.length)?;
-            line.say(" bytes")?;
+            line.cite_path(&file.path);
+            line.say(" of ");
+            line.number(file.length);
+            line.say(" bytes");
         }
-        None => line.say("no more file")?,
+        None => line.say("no more file"),
     }
     Ok(true)
 }
 
 // Tells a file of the tree that no entry is.
-fn tell_left(line: &mut Line, file: Option<&TreeFile>) -> Result<bool, AllocError>
-    ensures nothing { result ≡ Ok false → line.new ≡ line.old }
-    ensures told { result ≡ Ok true → 0 < length line.new }
+fn tell_left(line: &mut Line, file: Option<&TreeFile>) -> bool
+    ensures nothing { result ≡ false → line.new ≡ line.old }
+    ensures told { result ≡ true → 0 < length line.new }
 {
     let Some(file) = file else {
-        return Ok(false);
+        return false;
     };
-    line.say("file tree: ")?;
-    line.cite_path(&file.path)?;
-    line.say(": not in files")?;
-    Ok(true)
+    line.say("file tree: ");
+    line.cite_path(&file.path);
+    line.say(": not in files");
+    true
 }
 
 /// Tells the first entry that begins at no piece of its own, or that the padding at the end is wrong.
-pub(crate) fn tell_alignment(line: &mut Line, info: &ItemRef<'_>) -> Result<bool, AllocError>
-    ensures nothing { result ≡ Ok false → line.new ≡ line.old }
-    ensures told { result ≡ Ok true → 0 < length line.new }
+pub(crate) fn tell_alignment(line: &mut Line, info: &ItemRef<'_>) -> bool
+    ensures nothing { result ≡ false → line.new ≡ line.old }
+    ensures told { result ≡ true → 0 < length line.new }
 {
     let Some(entries) = entries_of(info) else {
-        return Ok(false);
+        return false;
     };
     let piece_length = piece_length_of(info);
     let mut offset: u64 = 0;
@@ -121,31 +121,31 @@ pub(crate) fn tell_alignment(line: &mut Line, info: &ItemRef<'_>) -> Result<bool
     tell_tail(line, tail, lacking)
 }
 
-fn tell_start(line: &mut Line, index: usize, offset: u64, aligned: u64) -> Result<bool, AllocError>
-    ensures nothing { result ≡ Ok false → line.new ≡ line.old }
-    ensures told { result ≡ Ok true → 0 < length line.new }
+fn tell_start(line: &mut Line, index: usize, offset: u64, aligned: u64) -> bool
+    ensures nothing { result ≡ false → line.new ≡ line.old }
+    ensures told { result ≡ true → 0 < length line.new }
 {
-    say_entry(line, index)?;
-    line.say("it begins at byte ")?;
-    line.number(offset)?;
-    line.say(" of all files, where its first piece begins at byte ")?;
-    line.number(aligned)?;
-    Ok(true)
+    say_entry(line, index);
+    line.say("it begins at byte ");
+    line.number(offset);
+    line.say(" of all files, where its first piece begins at byte ");
+    line.number(aligned);
+    true
 }
 
-fn tell_tail(line: &mut Line, tail: u64, lacking: u64) -> Result<bool, AllocError>
-    ensures nothing { result ≡ Ok false → line.new ≡ line.old }
-    ensures told { result ≡ Ok true → 0 < length line.new }
+fn tell_tail(line: &mut Line, tail: u64, lacking: u64) -> bool
+    ensures nothing { result ≡ false → line.new ≡ line.old }
+    ensures told { result ≡ true → 0 < length line.new }
 {
     if tail == 0 || tail == lacking {
-        return Ok(false);
+        return false;
     }
-    line.say("files: ")?;
-    line.number(tail)?;
-    line.say(" bytes of padding at the end, where none or ")?;
-    line.number(lacking)?;
-    line.say(" have to be")?;
-    Ok(true)
+    line.say("files: ");
+    line.number(tail);
+    line.say(" bytes of padding at the end, where none or ");
+    line.number(lacking);
+    line.say(" have to be");
+    true
 }
 
 /// Tells the first file that has other letters on one side.
@@ -159,47 +159,43 @@ pub(crate) fn tell_letters(
 {
     let files = files_of_tree(alloc, info)?;
     let Some(entries) = entries_of(info) else {
-        return tell_other_letters(line, info, files.first());
+        return Ok(tell_other_letters(line, info, files.first()));
     };
     let mut rest = files.iter();
     'entries: for entry in entries {
         if is_padding(entry) {
             continue;
         }
-        if tell_other_letters(line, entry, rest.next())? {
+        if tell_other_letters(line, entry, rest.next()) {
             return Ok(true);
         }
     }
     Ok(false)
 }
 
-fn tell_other_letters(
-    line: &mut Line,
-    entry: &ItemRef<'_>,
-    file: Option<&TreeFile>,
-) -> Result<bool, AllocError>
-    ensures nothing { result ≡ Ok false → line.new ≡ line.old }
-    ensures told { result ≡ Ok true → 0 < length line.new }
+fn tell_other_letters(line: &mut Line, entry: &ItemRef<'_>, file: Option<&TreeFile>) -> bool
+    ensures nothing { result ≡ false → line.new ≡ line.old }
+    ensures told { result ≡ true → 0 < length line.new }
 {
     let Some(file) = file else {
-        return Ok(false);
+        return false;
     };
     let letters = letters_of(entry);
     let is_same = letters.contains(&b'x') == file.exec && letters.contains(&b'h') == file.hidden;
     if is_same || !has_attr(entry) || !file.has_attr {
-        return Ok(false);
+        return false;
     }
-    line.say("attr of ")?;
-    line.cite_path(&file.path)?;
-    line.say(": ")?;
-    say_letters(line, letters.contains(&b'x'), letters.contains(&b'h'))?;
-    line.say(" on the v1 side, ")?;
-    say_letters(line, file.exec, file.hidden)?;
-    line.say(" in file tree")?;
-    Ok(true)
+    line.say("attr of ");
+    line.cite_path(&file.path);
+    line.say(": ");
+    say_letters(line, letters.contains(&b'x'), letters.contains(&b'h'));
+    line.say(" on the v1 side, ");
+    say_letters(line, file.exec, file.hidden);
+    line.say(" in file tree");
+    true
 }
 
-fn say_letters(line: &mut Line, exec: bool, hidden: bool) -> Result<(), AllocError>
+fn say_letters(line: &mut Line, exec: bool, hidden: bool)
     ensures { length line.old ≤ length line.new }
 {
     line.say(match (exec, hidden) {

@@ -5,34 +5,33 @@ use crate::line::Line;
 use crate::list::entries_of;
 use crate::properties::length_of;
 use crate::shape::{Shape, tell_shape};
-use std::alloc::AllocError;
 use tor_bencode::ItemRef;
 
 /// Tells that the files are too large together.
-pub(crate) fn tell_large(line: &mut Line) -> Result<bool, AllocError>
-    ensures nothing { result ≡ Ok false → line.new ≡ line.old }
-    ensures told { result ≡ Ok true → 0 < length line.new }
+pub(crate) fn tell_large(line: &mut Line) -> bool
+    ensures nothing { result ≡ false → line.new ≡ line.old }
+    ensures told { result ≡ true → 0 < length line.new }
 {
     line.say(
         "the lengths of all files together: above 4611686018427387904, each rounded up to a GiB",
-    )?;
-    Ok(true)
+    );
+    true
 }
 
 /// Tells that `pieces` has not 20 bytes for each piece.
-pub(crate) fn tell_pieces(line: &mut Line, info: &ItemRef<'_>) -> Result<bool, AllocError>
-    ensures nothing { result ≡ Ok false → line.new ≡ line.old }
-    ensures told { result ≡ Ok true → 0 < length line.new }
+pub(crate) fn tell_pieces(line: &mut Line, info: &ItemRef<'_>) -> bool
+    ensures nothing { result ≡ false → line.new ≡ line.old }
+    ensures told { result ≡ true → 0 < length line.new }
 {
     let Some(ItemRef::Bytes(sums)) = info.get(b"pieces") else {
         return tell_shape(line, "pieces", info.get(b"pieces"), Shape::Text);
     };
-    line.say("pieces: ")?;
-    line.number(sums.len() as u64)?;
-    line.say(" bytes, where 20 for each of ")?;
-    line.number(total_of(info).div_ceil(piece_length_of(info)))?;
-    line.say(" pieces have to be")?;
-    Ok(true)
+    line.say("pieces: ");
+    line.number(sums.len() as u64);
+    line.say(" bytes, where 20 for each of ");
+    line.number(total_of(info).div_ceil(piece_length_of(info)));
+    line.say(" pieces have to be");
+    true
 }
 
 // How many bytes all entries have, or the one file.

@@ -1,5 +1,5 @@
 //! What is wrong with a file tree, in the order of its keys.
-ghost use Rattle.std.specs.Prelude.{◌<◌, ◌≡◌, false, true, OnOk, length};
+ghost use Rattle.std.specs.Prelude.{◌<◌, ◌≡◌, false, true, length};
 
 use crate::line::Line;
 use crate::names::tell_no_name;
@@ -19,10 +19,10 @@ pub(crate) fn tell_tree(
     ensures told { result ≡ Ok true → 0 < length line.new }
 {
     let Some(ItemRef::Dict(pairs)) = info.get(b"file tree") else {
-        return tell_shape(line, "file tree", info.get(b"file tree"), Shape::Dictionary);
+        return Ok(tell_shape(line, "file tree", info.get(b"file tree"), Shape::Dictionary));
     };
     if question == Question::Mixed && has_empty_key(pairs) {
-        line.say("file tree: the empty key, where names have to be")?;
+        line.say("file tree: the empty key, where names have to be");
         return Ok(true);
     }
     tell_pairs(alloc, line, question, pairs, &mut Vec::new(alloc))
@@ -59,17 +59,17 @@ fn tell_pair<'t>(
     ensures nothing { result ≡ Ok false → line.new ≡ line.old }
     ensures told { result ≡ Ok true → 0 < length line.new }
 {
-    let mut reason = Line::new(alloc);
+    let mut reason = Line::new();
     if key.is_empty() {
-        if tell_file(&mut reason, question, value)? {
-            say_place(line, folder, &reason)?;
+        if tell_file(&mut reason, question, value) {
+            say_place(line, folder, &reason);
             return Ok(true);
         }
         return Ok(false);
     }
     folder.push(key)?;
     if tell_folder(alloc, &mut reason, question, key, value)? {
-        say_place(line, folder, &reason)?;
+        say_place(line, folder, &reason);
         return Ok(true);
     }
     if let ItemRef::Dict(pairs) = value {
@@ -82,24 +82,24 @@ fn tell_pair<'t>(
 }
 
 // A place of the tree, and what is wrong there.
-fn say_place(line: &mut Line, folder: &[&[u8]], reason: &Line) -> Result<(), AllocError>
-    ensures { OnOk result (0 < length line.new) }
+fn say_place(line: &mut Line, folder: &[&[u8]], reason: &Line)
+    ensures { 0 < length line.new }
 {
-    line.say("file tree: ")?;
-    line.cite_names(folder)?;
-    line.say(": ")?;
+    line.say("file tree: ");
+    line.cite_names(folder);
+    line.say(": ");
     line.join(reason)
 }
 
 // Tells what is wrong with the value of an empty key.
-fn tell_file(line: &mut Line, question: Question, file: &ItemRef<'_>) -> Result<bool, AllocError>
-    ensures nothing { result ≡ Ok false → line.new ≡ line.old }
-    ensures told { result ≡ Ok true → 0 < length line.new }
+fn tell_file(line: &mut Line, question: Question, file: &ItemRef<'_>) -> bool
+    ensures nothing { result ≡ false → line.new ≡ line.old }
+    ensures told { result ≡ true → 0 < length line.new }
 {
     if question == Question::Shape
-        && tell_shape(line, "its properties", Some(file), Shape::Dictionary)?
+        && tell_shape(line, "its properties", Some(file), Shape::Dictionary)
     {
-        return Ok(true);
+        return true;
     }
     tell_properties(line, question, file)
 }
@@ -120,25 +120,25 @@ fn tell_folder(
             if tell_no_name(alloc, line, key)? {
                 return Ok(true);
             }
-            tell_shape(line, "", Some(value), Shape::Dictionary)
+            Ok(tell_shape(line, "", Some(value), Shape::Dictionary))
         }
-        Question::Mixed => tell_mixed(line, value),
+        Question::Mixed => Ok(tell_mixed(line, value)),
         _ => Ok(false),
     }
 }
 
-fn tell_mixed(line: &mut Line, value: &ItemRef<'_>) -> Result<bool, AllocError>
-    ensures nothing { result ≡ Ok false → line.new ≡ line.old }
-    ensures told { result ≡ Ok true → 0 < length line.new }
+fn tell_mixed(line: &mut Line, value: &ItemRef<'_>) -> bool
+    ensures nothing { result ≡ false → line.new ≡ line.old }
+    ensures told { result ≡ true → 0 < length line.new }
 {
     let ItemRef::Dict(pairs) = value else {
-        return Ok(false);
+        return false;
     };
     if pairs.len() < 2 || !has_empty_key(pairs) {
-        return Ok(false);
+        return false;
     }
-    line.say("a folder that is a file too")?;
-    Ok(true)
+    line.say("a folder that is a file too");
+    true
 }
 
 fn has_empty_key(pairs: &Vec<(&[u8], ItemRef<'_>)>) -> bool {

@@ -1,23 +1,26 @@
-use Rattle.std.proofs.Common.{◌≡◌, ◌++◌, ◌∙◌, ◌≤◌, ℕ, ap, subst, sym, arith, length, false}
+use Rattle.std.proofs.Common.{◌≡◌, ◌∙◌, ◌++◌, ◌≤◌, arith, subst, sym, length, false}
 use Rattle.std.proofs.Math.Utf8.{encode}
-use Rattle.std.specs.Result.{is_ok}
-use Rattle.std.specs.String.{string_bytes}
 use Rattle.tor_explain.specs.Plain.{IsPlainText, is_control}
-use Rattle.tor_explain.proofs.PlainTexts.{kept, one_more, said_one}
+use Rattle.tor_explain.proofs.PlainTexts.{of_ok, one_more, said_one}
 use Rattle.tor_explain.proofs.line.Line.add.Goals as goal
+
+-- there is room for one more character
+added : (c : goal.After-try_push) → c.try_push.new.self.bytes ≡ c.self.inside.text.bytes ++ encode c.args.c
+added c =
+    of_ok c.try_push.result _ (c.try_push.ensures.variant.1 (omega (
+      arith,
+      c.len.ensures.value,
+      c.if-len.false,
+      c.try_push.ensures.char_len,
+    ))) c.try_push.ensures.ok
 
 pub invariant_of-self : goal.invariant_of-self
 invariant_of-self c =
-    let text = string_bytes c.self.inside.text in
+    let text = c.self.inside.text.bytes in
     let plain : is_control c.args.c ≡ false = sym c.is_control.ensures ∙ c.if-is_control.false in
-    let room = c.if-as_bytes.false in
-    let same = c.as_bytes.ensures.value in
-    let room_left : length text ≤ 1020 = omega (arith, ap (length {A = ℕ}) same) in
-    subst (λ written. IsPlainText written) (sym c.push.ensures.bytes)
-    (kept (is_ok c.push.result) text (text ++ encode c.args.c) c.self.invariant
-    (one_more text c.args.c c.self.invariant plain room_left c.push.ensures.char_len))
+    let room : length text ≤ 1020 = omega (arith, c.len.ensures.value, c.if-len.false) in
+    subst (λ written. IsPlainText written) (sym (added c))
+    (one_more text c.args.c c.self.invariant plain room c.try_push.ensures.char_len)
 
 pub returns-clause-said : goal.returns-clause-said
-returns-clause-said c =
-    said_one c.push.result (string_bytes c.self.inside.text) (string_bytes c.push.new.self) c.args.c
-    (is_control c.args.c ≡ false) c.push.ensures.bytes
+returns-clause-said c _ = said_one c.self.inside.text.bytes c.try_push.new.self.bytes c.args.c (added c)
