@@ -10,7 +10,8 @@ from collections import namedtuple
 import reference
 from reference import BLOCK, Order, judge, marks_of, recheck_lines
 from refuser import ALL_LATER, Meet, Refuser
-from support import Failure, refused, shown
+from rows import ABC
+from support import Failure, expect_equal, refused, shown
 
 # Longer than any torrent here.
 OLD = b'old ' * 1000
@@ -355,3 +356,14 @@ def test_killed_while_it_writes(program, folder):
     lay_out(folder)
     refuser = Refuser(program, folder)
     sweep_killed(refuser, input_case(folder, 'v2', folder / 'out'))
+
+
+def test_writes_of_few_bytes(program, folder):
+    """A torrent goes out byte by byte as it does at once. Of a write that fails after twelve bytes the twelve are told."""
+    abc = folder / 'abc'
+    abc.write_bytes(b'abc')
+    refuser, words = Refuser(program, folder), ['make', '--name', 'a', '--piece-length', '16384']
+    for meet, wanted in [(Meet(most=1), (0, ABC, b'')),
+                         (Meet('w', first=2, last=2, most=12), (3, ABC[:12], b'tor: write fault after 12 bytes\n'))]:
+        ended = refuser.run(words, meet, given=str(abc))
+        expect_equal(f'{words} with {meet}', wanted, (ended.status, ended.out, ended.err))
