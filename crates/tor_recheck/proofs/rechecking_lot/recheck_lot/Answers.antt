@@ -1,8 +1,10 @@
 -- those of the lot
-use Rattle.tor_recheck.proofs.Names.{◌∙◌, ◌+◌, ◌-◌, ℕ, Bool, List, ap, ap₂, arith, drop, length}
+use Rattle.tor_recheck.proofs.Names.{◌≡◌, ◌∙◌, ◌+◌, ◌-◌, ◌≤◌, ℕ, Bool, List, ap, ap₂, arith, drop, length}
 use Rattle.tor_recheck.proofs.Names.{ones, refl, subst, sym, take}
 use Rattle.tor_recheck.proofs.Names.{IsFault, option_map, of_engine_error}
 use Rattle.tor_recheck.proofs.Names.{[], IsGiven, IsGivenPieces, PlanFacts}
+use Rattle.std.proofs.lemmas.Grind.{common_steps}
+use Rattle.tor_recheck.proofs.DealtLots.{lots_rise}
 use Rattle.tor_recheck.proofs.LotGiven.{given_own, of_own}
 use Rattle.tor_recheck.proofs.RecheckFaults.{given_of}
 use Rattle.tor_recheck.proofs.Rechecked.{count_is}
@@ -16,6 +18,35 @@ use Rattle.tor_recheck.proofs.rechecking_lot.recheck_lot.Goals as goal
 pub plan_of-requires : goal.plan_of-requires
 unfolding ones
 plan_of-requires g c = (refl, omega arith, omega arith)
+
+-- a lot begins no later than the next one
+ordered : (n lots lot from to : ℕ) → from ≡ first_of_lot n lots lot → to ≡ first_of_lot n lots (lot + 1) → from ≤ to
+ordered n lots lot from to begins ends =
+    subst (λ a. a ≤ to) (sym begins) (subst (λ b. first_of_lot n lots lot ≤ b) (sym ends) (lots_rise n lots lot))
+
+pub own_files-requires-clause-ordered : goal.own_files-requires-clause-ordered
+own_files-requires-clause-ordered g c =
+    let lots = c.args.lots in
+    let count = c.piece_count-count.ensures in
+    let begins = c.first_of_lot-from.ensures.result ∙ ap₂ (λ n l. first_of_lot n lots l) count c.from.ensures in
+    let ends = c.first_of_lot-to.ensures.result ∙ ap₂ (λ n l. first_of_lot n lots (l + 1)) count c.from-2.ensures in
+    ordered c.args.torrent.now.piece_count lots c.args.lot _ _ begins ends
+
+pub find_pieces_between-requires-clause-ordered : goal.find_pieces_between-requires-clause-ordered
+find_pieces_between-requires-clause-ordered g c κs outlives =
+    let lots = c.args.lots in
+    let count = c.piece_count-count.ensures in
+    let begins = c.first_of_lot-from.ensures.result ∙ ap₂ (λ n l. first_of_lot n lots l) count c.from.ensures in
+    let ends = c.first_of_lot-to.ensures.result ∙ ap₂ (λ n l. first_of_lot n lots (l + 1)) count c.from-2.ensures in
+    ordered c.args.torrent.now.piece_count lots c.args.lot _ _ begins ends
+
+pub bits_between-requires-clause-ordered : goal.bits_between-requires-clause-ordered
+bits_between-requires-clause-ordered g c =
+    let lots = c.args.lots in
+    let count = c.piece_count-count.ensures in
+    let begins = c.first_of_lot-from.ensures.result ∙ ap₂ (λ n l. first_of_lot n lots l) count c.from.ensures in
+    let ends = c.first_of_lot-to.ensures.result ∙ ap₂ (λ n l. first_of_lot n lots (l + 1)) count c.from-2.ensures in
+    ordered c.args.torrent.now.piece_count lots c.args.lot _ _ begins ends
 
 pub bits_between-requires-clause-within : goal.bits_between-requires-clause-within
 bits_between-requires-clause-within g c =
@@ -136,3 +167,24 @@ returns-in-Err-clause-gave g c =
     (given_own c.deref.result.now answers (length view.files) c.in-Err.error
     (subst (λ (n : ℕ). IsGivenPieces (own_answers c.deref.result.now answers) n c.in-Err.error) files
     c.in-Err.ensures.gave)))
+
+pub returns-in_err-bits-clause-workers : goal.returns-in_err-bits-clause-workers
+returns-in_err-bits-clause-workers g c = grind (arith, common_steps)
+
+pub returns-in_err-bits-clause-of_lot : goal.returns-in_err-bits-clause-of_lot
+returns-in_err-bits-clause-of_lot g c = grind (arith, common_steps)
+
+pub returns-in_err-bits-clause-found : goal.returns-in_err-bits-clause-found
+returns-in_err-bits-clause-found g c = grind (arith, common_steps)
+
+pub returns-in_err-bits-clause-allowed : goal.returns-in_err-bits-clause-allowed
+returns-in_err-bits-clause-allowed g c = grind (arith, common_steps)
+
+pub returns-clause-workers : goal.returns-clause-workers
+returns-clause-workers g c = grind (arith, common_steps)
+
+pub returns-in_err-bits_between-clause-allowed : goal.returns-in_err-bits_between-clause-allowed
+returns-in_err-bits_between-clause-allowed g c = grind (arith, common_steps)
+
+pub returns-in-Err-clause-allowed : goal.returns-in-Err-clause-allowed
+returns-in-Err-clause-allowed g c = grind (arith, common_steps)

@@ -1,4 +1,5 @@
 use Rattle.tor_recheck.proofs.Names.{◌∙◌, ◌<◌, ◌≤◌, Bool, List, ap, sym, length, arith, take_all, set_count}
+use Rattle.std.proofs.lemmas.Grind.{common_steps}
 use Rattle.tor_recheck.proofs.Counted.{test_tells, one_more, none_more}
 use Rattle.tor_recheck.proofs.ReadBack.{length-packed_bits}
 use Rattle.tor_recheck.proofs.bits.Bits.count_set.Goals.{then-eq, else-eq}
@@ -25,3 +26,6 @@ returns c =
     let all : length bits ≤ c.pieces.index =
     omega (arith, count, length-packed_bits c.self.inside.bytes.items c.self.inside.count) in
     c.pieces.invariant ∙ ap (λ (b : List Bool). set_count b) (take_all c.pieces.index bits all)
+
+pub overflow_add-set : goal.overflow_add-set
+overflow_add-set c = grind (arith, common_steps)
