@@ -359,11 +359,13 @@ def test_killed_while_it_writes(program, folder):
 
 
 def test_writes_of_few_bytes(program, folder):
-    """A torrent goes out byte by byte as it does at once. Of a write that fails after twelve bytes the twelve are told."""
+    """A torrent goes out byte by byte as it does at once. If a write after twelve bytes fails, or takes none, the line
+    says twelve."""
     abc = folder / 'abc'
     abc.write_bytes(b'abc')
     refuser, words = Refuser(program, folder), ['make', '--name', 'a', '--piece-length', '16384']
-    for meet, wanted in [(Meet(most=1), (0, ABC, b'')),
-                         (Meet('w', first=2, last=2, most=12), (3, ABC[:12], b'tor: write fault after 12 bytes\n'))]:
+    twelve = Meet('w', first=2, last=2, most=12)
+    stopped = 3, ABC[:12], b'tor: write fault after 12 bytes\n'
+    for meet, wanted in [(Meet(most=1), (0, ABC, b'')), (twelve, stopped), (twelve._replace(error=0), stopped)]:
         ended = refuser.run(words, meet, given=str(abc))
         expect_equal(f'{words} with {meet}', wanted, (ended.status, ended.out, ended.err))

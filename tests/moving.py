@@ -27,7 +27,7 @@ import reference
 from hostile import BLOCK, CONTENTS, KINDS, LONG, OLD, WAYS, torrent_of
 from reference import Order, Refused, judge
 from refuser import ALL_LATER, Meet, Refuser
-from support import Failure, Skipped, done, refused, run, shown, shown_words
+from support import Failure, Skipped, done, expect_equal, refused, run, shown, shown_words
 
 # The file that moves, which is file 1: its place below the folder.
 MOVED = 'b/c'
@@ -294,6 +294,18 @@ def test_a_file_that_moves_before_it_is_checked_after(program, folder):
             (cut, 'v2', ('streams', 2), True), (file_removed, 'v1', ('halves', 2), True),
             (grown, 'v2', ('streams', 2), False)]:
         sweep_after(refuser, folder / 'f', kind, way, move_of[act], has_out)
+
+
+def test_a_piece_that_is_rewritten_between_the_passes(program, folder):
+    """Of a file of two pieces the second is rewritten before a read: before the first pass it is made so, before the
+    second one piece is as it was made."""
+    refuser, place = Refuser(program, folder), folder / 'file'
+    words = ['make', '--name', 'a', '--piece-length', str(BLOCK), '--how', 'one', '--check-after', str(place)]
+    came = [(ended.status, ended.err) for ended in refuser.each(
+        words, Meet('r', does='hold'), act=lambda _: place.write_bytes(bytes(BLOCK) + b'1' * BLOCK),
+        before=lambda: place.write_bytes(bytes(2 * BLOCK)))]
+    expect_equal('before the first read', (0, b''), came[0])
+    expect_equal('before the last read', (1, b'tor: not as made: 1 of 2 pieces\n'), came[-1])
 
 
 # What is exchanged with a link: a folder, one in which it is, a file.

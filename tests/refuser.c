@@ -7,7 +7,7 @@
    REFUSER_FIRST   the first that is met, counted from 1; 0 for none
    REFUSER_LAST    the last
    REFUSER_DOES    r refuse, h hold, k kill, t tell alone
-   REFUSER_ERROR   the error of a call of the system that is refused
+   REFUSER_ERROR   the error of a call of the system that is refused; 0 for a write that takes nothing
    REFUSER_MOST    the most bytes that one call writes; 0 for as many as it is asked for
    REFUSER_BROKEN  a file of which each read fails, whatever is counted; none where it is empty
    REFUSER_TOLD    the descriptor on which each call that is met is told in a line: its kind, its descriptor, the offset
@@ -169,7 +169,7 @@ ssize_t pread(int file, void *buffer, size_t size, off_t offset) {
 }
 
 ssize_t write(int file, const void *buffer, size_t size) {
-    if (refuses('w', file, place_in(file), NULL)) return -1;
+    if (refuses('w', file, place_in(file), NULL)) return error ? -1 : 0;
     return syscall(SYS_write, file, buffer, most && (size_t)most < size ? (size_t)most : size);
 }
 
