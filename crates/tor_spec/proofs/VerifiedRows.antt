@@ -1,7 +1,11 @@
 -- Which pieces are verified, computed for worked torrents and contents where no hash decides it.
 use Rattle.tor_spec.proofs.Names.{◌≡◌, ℕ, Bool, true, false, List, [], ◌∷◌, ◌++◌, length, map, refl, codes, replicate}
 use Rattle.tor_spec.proofs.Names.{take, drop, range_with_len, Data, run_at, is_whole, joined_bytes, verified_pieces}
-use Rattle.tor_spec.proofs.Names.{view_of, zeros}
+use Rattle.tor_spec.proofs.Names.{view_of, zeros, zero, suc, ◌+◌, ◌*◌, ◌-◌, ◌<◌, ◌≤◌, Option, None, Some, arith}
+use Rattle.tor_spec.proofs.Names.{ap, ap₂, sym, ◌∙◌, length-replicate}
+use Rattle.std.proofs.lemmas.List.{length-map, drop-append-le, take-append-le, replicate-append-replicate, length-drop}
+use Rattle.std.proofs.lemmas.List.FromFn.{map-range_with_len_more}
+use Rattle.tor_spec.proofs.OwnBytes.{run_there, whole_there}
 use Rattle.tor_spec.proofs.ValidRows.{hybrid, listed, of_list, properties, treed}
 use Rattle.tor_spec.proofs.WorkedTrees.{bytes, dict, file, items, padding, two}
 
@@ -87,7 +91,42 @@ without_file : drop 17 (bits padded []) ≡ false ∷ []
 unfolding zeros
 without_file = refl
 
-padding_is_there : map (λ i. is_whole (run_at 16384 (joined_bytes (view_of padded).entries []) i))
-    (range_with_len 0 18) ≡ replicate 17 true ++ false ∷ []
+-- a piece of zeros is there, whatever follows them
+piece_of_zeros : (p n i : ℕ) (after : List (Option ℕ)) → i * p + p ≤ n
+    → is_whole (run_at p (map Some (zeros n) ++ after) i) ≡ true
 unfolding zeros
-padding_is_there = refl
+piece_of_zeros p n i after within =
+    let long : length (map Some (zeros n)) ≡ n = length-map (zeros n) Some ∙ length-replicate n 0 in
+    let left : length (drop (i * p) (map Some (zeros n))) ≡ n - i * p =
+    length-drop (i * p) (map Some (zeros n)) ∙ ap (λ count. count - i * p) long in
+    ap (λ bytes. is_whole (take p bytes))
+    (drop-append-le (i * p) (map Some (zeros n)) after (omega (arith, within, long)))
+    ∙ ap is_whole (take-append-le p (drop (i * p) (map Some (zeros n))) after (omega (arith, within, left)))
+    ∙ ap is_whole (run_there p (zeros n) i)
+    ∙ whole_there (run_at p (zeros n) i)
+
+-- a test that holds of each number below n
+below : (test : ℕ → Bool) (n : ℕ) → ((i : ℕ) → i < n → test i ≡ true)
+    → map test (range_with_len 0 n) ≡ replicate n true
+below test zero holds = refl
+below test (suc n) holds =
+    let more : suc n ≡ n + 1 = omega arith in
+    ap (λ count. map test (range_with_len 0 count)) more
+    ∙ map-range_with_len_more test 0 n n (omega arith)
+    ∙ ap₂ (λ firsts last. firsts ++ last ∷ [])
+    (below test n (λ i less. holds i (omega (arith, less)))) (holds n (omega arith))
+    ∙ replicate-append-replicate n 1 true
+    ∙ ap (λ count. replicate count true) (sym more)
+
+abbrev there_at : ℕ → Bool
+there_at i = is_whole (run_at 16384 (joined_bytes (view_of padded).entries []) i)
+
+last_is_not : there_at 17 ≡ false
+unfolding zeros
+last_is_not = refl
+
+padding_is_there : map there_at (range_with_len 0 18) ≡ replicate 17 true ++ false ∷ []
+padding_is_there =
+    map-range_with_len_more there_at 0 17 17 refl
+    ∙ ap₂ (λ firsts last. firsts ++ last ∷ [])
+    (below there_at 17 (λ i less. piece_of_zeros 16384 278528 i (None ∷ []) (omega (arith, less)))) last_is_not
