@@ -355,7 +355,7 @@ def test_padding_alone(program, folder):
 
 def test_fronts_and_turned_bits(program, folder, step=7):
     """Each front of a hybrid is truncated at its end; where one bit is turned the reference tells the same, and what is
-    accepted is the spelling of its tree. Here it is every seventh bit; bench/changed turns each."""
+    accepted is the spelling of its tree. Here it is every seventh bit; sides.py turns each."""
     text = make([((b'a',), b'ab'), ((b'b',), b'c')], Order('hybrid', False, b'f', BLOCK, None, False, 'one', 1, 16))
     runs, place = Refuser(program, folder, library=''), folder / 'torrent'
     for count in range(len(text)):

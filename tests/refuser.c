@@ -9,6 +9,8 @@
    REFUSER_DOES    r refuse, h hold, k kill, t tell alone
    REFUSER_ERROR   the error of a call of the system that is refused; 0 for a write that takes nothing
    REFUSER_MOST    the most bytes that one call writes; 0 for as many as it is asked for
+   REFUSER_SHORT   the most bytes that one call reads; 0 for as many as it is asked for. A read at an offset asks the
+                   system for all of them.
    REFUSER_BROKEN  a file of which each read fails, whatever is counted; none where it is empty
    REFUSER_TOLD    the descriptor on which each call that is met is told in a line: its kind, its descriptor, the offset
                    where it is known, and its file; of memory `first` or `later`, as the thread is that asks
@@ -38,7 +40,7 @@ typedef int Create(pthread_t *, const pthread_attr_t *, void *(*)(void *), void 
 typedef long Tell(int);
 
 static const char *kinds = "", *broken = "";
-static long calls, first, last, most;
+static long calls, first, last, most, brief;
 static int told, go, error;
 static char does = 'r';
 static Create *create;
@@ -55,6 +57,7 @@ __attribute__((constructor)) static void begin(void) {
     first = number("REFUSER_FIRST");
     last = number("REFUSER_LAST");
     most = number("REFUSER_MOST");
+    brief = number("REFUSER_SHORT");
     told = number("REFUSER_TOLD");
     go = number("REFUSER_GO");
     error = number("REFUSER_ERROR");
@@ -161,11 +164,14 @@ static long place_in(int file) { return syscall(SYS_lseek, file, 0, SEEK_CUR); }
 
 ssize_t read(int file, void *buffer, size_t size) {
     if (is_broken(file)) return -1;
-    return refuses('r', file, place_in(file), NULL) ? -1 : syscall(SYS_read, file, buffer, size);
+    if (refuses('r', file, place_in(file), NULL)) return -1;
+    return syscall(SYS_read, file, buffer, brief && (size_t)brief < size ? (size_t)brief : size);
 }
 
 ssize_t pread(int file, void *buffer, size_t size, off_t offset) {
-    return refuses('r', file, offset, NULL) ? -1 : syscall(SYS_pread64, file, buffer, size, offset);
+    if (refuses('r', file, offset, NULL)) return -1;
+    ssize_t count = syscall(SYS_pread64, file, buffer, size, offset);
+    return brief && brief < count ? brief : count;
 }
 
 ssize_t write(int file, const void *buffer, size_t size) {

@@ -20,8 +20,9 @@ ALL_LATER = 1 << 40
 TOLD, GO = 99, 98
 
 # Which calls are met, as refuser.c says: the kinds that count, the first and the last of them, what meets them, the
-# error of those that are refused, the most bytes of a write, and a file that cannot be read.
-Meet = namedtuple('Meet', 'kinds first last does error most broken', defaults=('', 0, 0, 'refuse', errno.EIO, 0, ''))
+# error of those that are refused, the most bytes of a write, a file that cannot be read, and the most bytes of a read.
+Meet = namedtuple('Meet', 'kinds first last does error most broken short',
+                  defaults=('', 0, 0, 'refuse', errno.EIO, 0, '', 0))
 # A call that was met.
 Met = namedtuple('Met', 'kind file offset place')
 # How a run ended: its status (-9 where it was killed), its output, and the calls that were met.
@@ -70,8 +71,8 @@ class Refuser:
         environment = {
             'LD_PRELOAD': self.library, 'REFUSER_KINDS': meet.kinds, 'REFUSER_FIRST': str(meet.first),
             'REFUSER_LAST': str(meet.last), 'REFUSER_DOES': meet.does, 'REFUSER_ERROR': str(meet.error),
-            'REFUSER_MOST': str(meet.most), 'REFUSER_BROKEN': meet.broken, 'REFUSER_TOLD': str(TOLD),
-            'REFUSER_GO': str(GO)}
+            'REFUSER_MOST': str(meet.most), 'REFUSER_BROKEN': meet.broken, 'REFUSER_SHORT': str(meet.short),
+            'REFUSER_TOLD': str(TOLD), 'REFUSER_GO': str(GO)}
         return os.posix_spawn(self.program, [self.program, *words], environment, file_actions=files)
 
     def each(self, words, meet, given=os.devnull, act=None, before=lambda: None):

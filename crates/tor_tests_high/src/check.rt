@@ -1,19 +1,11 @@
 //! The tests of `tor_check`.
 //!
-//! `verdicts.rt`, `worked.rt`, `order.rt`: which bytes are torrents, and of two faults the first; `lenient.rt`: what
-//! other makers may write; `turned.rt`: one bit is another; `hybrids.rt`, `letters.rt`: both sides; `layers.rt`;
-//! `pieces.rt`: proofs of pieces.
-//! `tables.rt` tries their tables; `telling.rt` and `layered.rt` have what these share.
+//! `entries.rt`: what is told of the v1 side, which no command prints, of the torrents in `tables.rt`; `codes.rt`: lines
+//! that the program does not show. `telling.rt` has what the tests share. Which bytes are torrents, and what else is
+//! told of them, is tried on the built program: `tests/verdicts.py`, `tests/sides.py`, `tests/layers.py`,
+//! `tests/foreign.py`.
 
-mod hybrids;
-pub mod layered;
-pub mod layers;
-mod lenient;
-mod letters;
-mod order;
-mod pieces;
+mod codes;
+mod entries;
 mod tables;
 pub mod telling;
-mod turned;
-pub mod verdicts;
-mod worked;

@@ -1,6 +1,4 @@
-//! The tests of `tor_parts`.
-//!
-//! `dealing.rt`: the units of each lot; `texts.rt`: lots as bytes. Torrents of lots are in `meta/lots.rt`.
+//! The tests of `tor_parts`: `rows.rt` has rows that are not those of a plan, and `texts.rt` lots as bytes.
 
-mod dealing;
+mod rows;
 mod texts;

@@ -1,11 +1,10 @@
 //! The tests of `tor_recheck`.
 //!
-//! `bits.rt`: bitfields; `rechecks.rt`: which pieces are there; `found.rt`: what is told of files; `readable.rt`: the
-//! same if places fail; `ranges.rt`: which bytes of files are bad; `lots.rt`: lot by lot; `meetings.rt`: whether its workers work at once.
+//! `rechecks.rt`: which pieces are there, each way to share the units, and faults; `readable.rt`: the same where places
+//! fail, and what is told of files; `bits.rt`, `ranges.rt`: bits that no recheck shows; `meetings.rt`: whether its
+//! workers work at once. What a recheck by some workers tells is tried on the built program (`tests/found.py`).
 
 pub mod bits;
-mod found;
-mod lots;
 mod meetings;
 mod ranges;
 mod readable;

@@ -1,8 +1,7 @@
 //! The tests of `tor_report`.
 //!
-//! `reports.rt`: what is told of torrents, written out by hand; `texts.rt`: texts that are longer than the buffer.
-//! `narrow.rt` has the writer that these share.
+//! `texts.rt`: texts longer than the buffer, and how segments are spelled. What is told of torrents is tried on the
+//! built program (`tests/told.py`). `narrow.rt` has a writer.
 
 mod narrow;
-mod reports;
 mod texts;

@@ -42,8 +42,21 @@ pub(crate) fn path(alloc: Global, text: &str) -> Result<FilePath, AllocError> {
     FilePath::new(names).ok_or(AllocError)
 }
 
+fn add_paths(alloc: Global, texts: &[&str], paths: &mut Vec<FilePath>) -> Result<(), AllocError> {
+    for text in texts {
+        paths.push(path(alloc, text)?)?;
+    }
+    Ok(())
+}
+
+pub(crate) fn paths_of(alloc: Global, texts: &[&str]) -> Result<Vec<FilePath>, AllocError> {
+    let mut paths = Vec::new(alloc);
+    add_paths(alloc, texts, &mut paths)?;
+    Ok(paths)
+}
+
 // A list of files. That they make none, as in none of the tables, is told as want of memory.
-pub(crate) fn list(alloc: Global, files: Vec<(FilePath, u64)>) -> Result<FileList, AllocError> {
+fn list(alloc: Global, files: Vec<(FilePath, u64)>) -> Result<FileList, AllocError> {
     FileList::build(alloc, files).ok().ok_or(AllocError)
 }
 
@@ -58,17 +71,10 @@ fn add_files(
     Ok(())
 }
 
-pub(crate) fn files_of(
-    alloc: Global,
-    rows: &[(&str, u64)],
-) -> Result<Vec<(FilePath, u64)>, AllocError> {
+pub(crate) fn list_of(alloc: Global, rows: &[(&str, u64)]) -> Result<FileList, AllocError> {
     let mut files = Vec::new(alloc);
     add_files(alloc, rows, &mut files)?;
-    Ok(files)
-}
-
-pub(crate) fn list_of(alloc: Global, rows: &[(&str, u64)]) -> Result<FileList, AllocError> {
-    list(alloc, files_of(alloc, rows)?)
+    list(alloc, files)
 }
 
 // The path of the file at an index of a thousand, after a text.

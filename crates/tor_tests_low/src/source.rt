@@ -1,14 +1,10 @@
 //! The tests of `tor_source`.
 //!
 //! - `memory.rt`: what sources in memory answer.
-//! - `folders.rt`: reads of real folders; `systems.rt`: of a system that has what no test can make.
-//! - `readers.rt`: files that are read once and in order.
-//! - `surveys.rt`: what is found and refused in real folders, and files that change after they were listed.
-//! - `unlinked.rt`: files that are looked for while no link is followed, and what stands beside given files.
+//! - `folders.rt`: reads of a real folder; `systems.rt`: scans of a system that has what no test can make.
+//! - `extra.rt`: what stands beside given files.
 
+mod extra;
 mod folders;
 mod memory;
-mod readers;
-mod surveys;
 mod systems;
-mod unlinked;

@@ -1,10 +1,8 @@
 //! The tests of `tor_tree`.
 //!
-//! - `names.rt`: names and paths; `lists.rt`: lists of files and of paths.
+//! - `names.rt`: names and paths; `lists.rt`: lists of files, with their letters, and of paths.
 //! - `trees.rt`: the `file tree`.
-//! - `letters.rt`: the letters of files in lists, trees and entries.
 
-mod letters;
 mod lists;
 mod names;
 mod trees;

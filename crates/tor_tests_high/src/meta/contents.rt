@@ -1,25 +1,17 @@
 //! Torrents of contents in memory, whose bytes were worked out by hand from BEP 3, BEP 47 and BEP 52; each hash in
-//! hexadecimal is of Python's hashlib.
+//! hexadecimal is of Python's hashlib. Others are in `tests/made.py`, as the program makes them.
 
-use crate::meta::given::{Row, Shape, are, files, is, name, repeated};
-use crate::meta::larger::LONG;
+use crate::meta::given::{Row, Shape, files, is, name, zeros};
 use std::alloc::{AllocError, Global};
 use std::io::{self, Error, ErrorKind, Write};
 use tor_meta::{Hashes, Head, magnet, make_contents, write_out};
-use tor_tree::{FilePath, Kind};
+use tor_tree::Kind;
 
 /// The torrent of the content `abc` under the name `a`, piece length 16,384. The hash is the SHA-256 of `abc`.
 pub(crate) const ABC: &[u8] = b"d4:infod9:file treed1:ad0:d6:lengthi3e11:pieces root32:\
 \xba\x78\x16\xbf\x8f\x01\xcf\xea\x41\x41\x40\xde\x5d\xae\x22\x23\
 \xb0\x03\x61\xa3\x96\x17\x7a\x9c\xb4\x10\xff\x61\xf2\x00\x15\xad\
 eee12:meta versioni2e4:name1:a12:piece lengthi16384ee12:piece layersdee";
-
-/// The torrent of the content `abc` under the name `a`, with a tracker, and private.
-const TRACKED: &[u8] =
-    b"d8:announce9:http://t/4:infod9:file treed1:ad0:d6:lengthi3e11:pieces root32:\
-\xba\x78\x16\xbf\x8f\x01\xcf\xea\x41\x41\x40\xde\x5d\xae\x22\x23\
-\xb0\x03\x61\xa3\x96\x17\x7a\x9c\xb4\x10\xff\x61\xf2\x00\x15\xad\
-eee12:meta versioni2e4:name1:a12:piece lengthi16384e7:privatei1ee12:piece layersdee";
 
 /// The torrents of no content under the name `a`.
 pub(crate) const EMPTY_V1: &[u8] =
@@ -51,7 +43,7 @@ d6:lengthi1e4:pathl1:beee12:meta versioni2e4:name1:f12:piece lengthi16384e6:piec
 \x84\xa5\x16\x84\x1b\xa7\x7a\x5b\x46\x48\xde\x2c\xd0\xdf\xcb\x30\xea\x46\xdb\xb4\
 e12:piece layersdee";
 
-pub(crate) fn head(alloc: Global, shape: &Shape) -> Result<Head, AllocError> {
+fn head(alloc: Global, shape: &Shape) -> Result<Head, AllocError> {
     let (kind, single, piece_length, text) = *shape;
     Ok(Head {
         kind,
@@ -64,22 +56,13 @@ pub(crate) fn head(alloc: Global, shape: &Shape) -> Result<Head, AllocError> {
     })
 }
 
-/// The torrent of contents, or why there is none.
-pub(crate) fn made_of(
-    alloc: Global,
-    files: Vec<(FilePath, Vec<u8>)>,
-    head: &Head,
-) -> Result<Vec<u8>, AllocError> {
-    match make_contents(alloc, files, head) {
+/// The torrent of files given as a text, or why there is none.
+fn made(alloc: Global, shape: &Shape, given: &str) -> Result<Vec<u8>, AllocError> {
+    let head = head(alloc, shape)?;
+    match make_contents(alloc, files(alloc, given)?, &head) {
         Ok(bytes) => Ok(bytes),
         Err(refusal) => Ok(format!(in alloc; "{refusal}")?.into_bytes()),
     }
-}
-
-/// The torrent of files given as a text, or why there is none.
-pub(crate) fn made(alloc: Global, shape: &Shape, given: &str) -> Result<Vec<u8>, AllocError> {
-    let head = head(alloc, shape)?;
-    made_of(alloc, files(alloc, given)?, &head)
 }
 
 /// Whether a row holds; `made` stands for any torrent.
@@ -126,108 +109,6 @@ const OF_A_FOLDER: &[Row] = &[
     (V1, "b=c a=ab", FOLDER_V1),
     (HYBRID, "b=c a=ab", FOLDER_HYBRID),
 ];
-
-/// The torrents of these tables, and how many bytes they have.
-const COUNTS: &[(&[u8], usize)] = &[
-    (ABC, 158),
-    (TRACKED, 191),
-    (EMPTY_V1, 62),
-    (EMPTY_V2, 109),
-    (EMPTY_HYBRID, 130),
-    (FOLDER_V1, 129),
-    (FOLDER_HYBRID, 382),
-];
-
-/// A head with a tracker, and private.
-fn tracked_head(alloc: Global) -> Result<Head, AllocError> {
-    let name = name(alloc, "a")?;
-    let url = Vec::from_slice(alloc, b"http://t/")?;
-    Ok(Head {
-        kind: Kind::V2,
-        single: true,
-        name,
-        piece_length: 16384,
-        announce: Some(url),
-        is_private: true,
-        tail: false,
-    })
-}
-
-/// Whether the torrent of that head has both.
-fn is_tracked(alloc: Global, head: &Head) -> bool {
-    match files(alloc, "a=abc") {
-        Ok(files) => are(made_of(alloc, files, head), TRACKED),
-        Err(_) => false,
-    }
-}
-
-fn is_tracked_made(alloc: Global) -> bool {
-    match tracked_head(alloc) {
-        Ok(head) => is_tracked(alloc, &head),
-        Err(_) => false,
-    }
-}
-
-/// What stands in the hybrid of a file of two bytes and an empty one, and in that of these and a file of one byte.
-const OF_TWO: &[u8] = b"5:filesld6:lengthi2e4:pathl1:aeed6:lengthi0e4:pathl2:aaeee";
-
-const OF_THREE: &[u8] =
-    b"5:filesld6:lengthi2e4:pathl1:aeed4:attr1:p6:lengthi16382e4:pathl4:.pad5:16382ee\
-d6:lengthi0e4:pathl2:aaeed6:lengthi1e4:pathl1:beee";
-
-fn has(torrent: &[u8], listed: &[u8]) -> bool {
-    for part in torrent.windows(listed.len().max(1)) {
-        if part == listed {
-            return true;
-        }
-    }
-    false
-}
-
-/// Whether that stands in the hybrid of the files.
-fn is_listed(alloc: Global, given: &str, listed: &[u8]) -> bool {
-    match made(alloc, &HYBRID, given) {
-        Ok(torrent) => has(&torrent, listed),
-        Err(_) => false,
-    }
-}
-
-/// The torrent of version 2 of five blocks of bytes 7, in pieces of two blocks.
-const FIVE_BLOCKS: &[u8] = b"d4:infod9:file treed1:ad0:d6:lengthi81920e11:pieces root32:\
-\xb4\xa7\x9f\xd2\x13\x3f\xad\x95\xa4\x07\x59\x75\x74\xe7\xe9\xaf\
-\x33\x43\x24\x6f\x68\x47\xe0\xb2\x55\x03\x5b\x1c\xcd\x13\x3b\xfd\
-eee12:meta versioni2e4:name1:a12:piece lengthi32768ee12:piece layersd32:\
-\xb4\xa7\x9f\xd2\x13\x3f\xad\x95\xa4\x07\x59\x75\x74\xe7\xe9\xaf\
-\x33\x43\x24\x6f\x68\x47\xe0\xb2\x55\x03\x5b\x1c\xcd\x13\x3b\xfd\
-96:\
-\x54\xd0\x2c\x25\xca\x04\x33\xf8\xcf\x1c\x69\x23\x52\x3b\x92\xdb\
-\x4b\x3a\x6c\xf9\xb0\x04\xfd\x3e\xad\xa7\xd3\xaf\x88\x47\x98\xa1\
-\x54\xd0\x2c\x25\xca\x04\x33\xf8\xcf\x1c\x69\x23\x52\x3b\x92\xdb\
-\x4b\x3a\x6c\xf9\xb0\x04\xfd\x3e\xad\xa7\xd3\xaf\x88\x47\x98\xa1\
-\x2f\xd9\xd0\x43\x39\x95\x63\xa2\xc7\xd1\xf0\xaa\xde\x43\x56\x91\
-\x9e\x58\x00\x85\x42\xff\xcb\xb8\x59\xbe\x8e\x2c\xed\x90\xf2\xe2\
-ee";
-
-const OF_FIVE_BLOCKS: &[Row] = &[((Kind::V2, true, 32768, "a"), "a=*81920", FIVE_BLOCKS)];
-
-/// The torrent of version 2 of two files of 16,385 bytes 7.
-const EQUAL_FILES: &[u8] = b"d4:infod9:file treed1:ad0:d6:lengthi16385e11:pieces root32:\
-\x6e\x19\x5a\x83\x11\xdc\x72\x9e\x1d\x20\xfa\x89\x1d\x4a\xfc\x3e\
-\xf6\xa3\x28\x26\xf4\xb6\x68\x1a\x8d\x1d\x25\x32\x78\x81\x87\xe1\
-ee1:bd0:d6:lengthi16385e11:pieces root32:\
-\x6e\x19\x5a\x83\x11\xdc\x72\x9e\x1d\x20\xfa\x89\x1d\x4a\xfc\x3e\
-\xf6\xa3\x28\x26\xf4\xb6\x68\x1a\x8d\x1d\x25\x32\x78\x81\x87\xe1\
-eee12:meta versioni2e4:name1:f12:piece lengthi16384ee12:piece layersd32:\
-\x6e\x19\x5a\x83\x11\xdc\x72\x9e\x1d\x20\xfa\x89\x1d\x4a\xfc\x3e\
-\xf6\xa3\x28\x26\xf4\xb6\x68\x1a\x8d\x1d\x25\x32\x78\x81\x87\xe1\
-64:\
-\x70\x98\x67\x37\x43\x5b\x5f\x89\xe1\x19\x55\x8b\xa7\xd2\x9e\x5b\
-\xb8\x76\x8d\xd1\x8c\x16\xbe\xaa\xaa\x09\x29\x8b\xf5\x86\xb2\x75\
-\xca\x35\x87\x58\xf6\xd2\x7e\x6c\xf4\x52\x72\x93\x79\x77\xa7\x48\
-\xfd\x88\x39\x1d\xb6\x79\xce\xda\x7d\xc7\xbf\x1f\x00\x5e\xe8\x79\
-ee";
-
-const OF_EQUAL_FILES: &[Row] = &[(V2, "a=*16385 b=*16385", EQUAL_FILES)];
 
 const TAKEN: &[Row] = &[(V1, ".pad/1=x", b"made"), (V2, ".pad/1=x", b"made")];
 
@@ -286,9 +167,9 @@ fn are_written(alloc: Global, bytes: &[u8]) -> bool {
     write_out(&mut written, bytes).is_ok() && written.as_slice() == bytes
 }
 
-/// Whether so many bytes 7 are.
+/// Whether so many zeros are.
 fn are_many_written(alloc: Global, count: usize) -> bool {
-    match repeated(alloc, 7, count) {
+    match zeros(alloc, count) {
         Ok(bytes) => are_written(alloc, &bytes),
         Err(_) => false,
     }
@@ -332,14 +213,11 @@ fn stops_after_twelve(faults: bool) -> bool {
 const TABLES: &[&[Row]] = &[
     OF_ONE_FILE,
     OF_A_FOLDER,
-    OF_FIVE_BLOCKS,
-    OF_EQUAL_FILES,
     TAKEN,
     TAKEN_ALONE,
     REFUSED,
     // Long paths are refused before their shape.
     TOO_DEEP,
-    LONG,
 ];
 
 #[test]
@@ -347,17 +225,7 @@ fn makes_torrents_of_contents(rt: HostRuntime) {
     for rows in TABLES {
         assert!(rt; are_right(rt.alloc(), rows));
     }
-    for (torrent, count) in COUNTS {
-        assert!(rt; torrent.len() == *count);
-    }
     assert!(rt; DEEP.len() == 129);
-    assert!(rt; is_tracked_made(rt.alloc()));
-}
-
-#[test]
-fn pads_hybrids_before_contents_alone(rt: HostRuntime) {
-    assert!(rt; is_listed(rt.alloc(), "a=ab aa=", OF_TWO));
-    assert!(rt; is_listed(rt.alloc(), "a=ab aa= b=c", OF_THREE));
 }
 
 #[test]

@@ -1,4 +1,4 @@
-//! What the tests share: tables of torrents, and files that are given as a text, as `a=ab b=#9 c`.
+//! What the tests share: tables of torrents, and files that are given as a text, as `a=ab b=*9 c`.
 
 use std::alloc::{AllocError, Global};
 use tor_source::MemSource;
@@ -37,35 +37,14 @@ fn parts(given: &str) -> (&str, Option<&str>) {
     }
 }
 
-fn add_counted(bytes: &mut Vec<u8>, length: usize) -> Result<(), AllocError> {
-    for i in 0..length {
-        bytes.push((i % 251) as u8)?;
-    }
-    Ok(())
+pub(crate) fn zeros(alloc: Global, length: usize) -> Result<Vec<u8>, AllocError> {
+    vec![in alloc; 0; length]
 }
 
-/// So many bytes, of which byte i is i % 251.
-fn counted(alloc: Global, length: usize) -> Result<Vec<u8>, AllocError> {
-    let mut bytes = Vec::new(alloc);
-    add_counted(&mut bytes, length)?;
-    Ok(bytes)
-}
-
-pub(crate) fn repeated(alloc: Global, byte: u8, length: usize) -> Result<Vec<u8>, AllocError> {
-    vec![in alloc; byte; length]
-}
-
-fn number(digits: &str) -> usize {
-    digits.parse::<usize>().unwrap_or(0)
-}
-
-/// The bytes that a text stands for: `#9` for nine of which byte i is i % 251, `*9` for nine bytes 7, else its own.
+/// The bytes that a text stands for: `*9` for nine zeros, else its own.
 fn content(alloc: Global, text: &str) -> Result<Vec<u8>, AllocError> {
-    if let Some(digits) = text.strip_prefix('#') {
-        return counted(alloc, number(digits));
-    }
     if let Some(digits) = text.strip_prefix('*') {
-        return repeated(alloc, 7, number(digits));
+        return zeros(alloc, digits.parse::<usize>().unwrap_or(0));
     }
     Vec::from_slice(alloc, text.as_bytes())
 }
@@ -137,14 +116,6 @@ pub(crate) fn files(alloc: Global, given: &str) -> Result<Vec<(FilePath, Vec<u8>
     let mut files = Vec::new(alloc);
     add_files(alloc, given, &mut files)?;
     Ok(files)
-}
-
-/// Whether there are bytes, and these.
-pub(crate) fn are(bytes: Result<Vec<u8>, AllocError>, wanted: &[u8]) -> bool {
-    match bytes {
-        Ok(bytes) => bytes.as_slice() == wanted,
-        Err(_) => false,
-    }
 }
 
 /// Whether there is a text, and this.

@@ -1,4 +1,5 @@
-//! Torrents of the files of a source, and why there is none.
+//! Torrents of the files of a source that gives few bytes a read, and why there is none. Each hash in hexadecimal is of
+//! Python's hashlib.
 ghost use Rattle.tor_source.specs.Answers.{any_answers};
 
 use crate::meta::contents::{ABC, EMPTY_HYBRID, EMPTY_V1, EMPTY_V2, FOLDER_HYBRID, FOLDER_V1};
@@ -64,7 +65,7 @@ fn is_answer<S: Source, R: AllocGlobal + Threads + Sync>(
 }
 
 /// Whether it is, each way to share the units.
-pub(crate) fn is_each_answer<S: Source, R: AllocGlobal + Threads + Sync>(
+fn is_each_answer<S: Source, R: AllocGlobal + Threads + Sync>(
     rt: &R,
     source: &S,
     paths: &[FilePath],
@@ -94,29 +95,27 @@ fn is_each_made<S: Source, R: AllocGlobal + Threads + Sync>(
     is_each_answer(rt, source, &paths, &mut order, row.2)
 }
 
-/// Whether a row holds if reads give all that they are asked for, with so many pieces a unit.
-pub(crate) fn is_made_at_once<R: AllocGlobal + Threads + Sync>(
-    rt: &R,
-    row: &Row,
-    span: u32,
-) -> bool {
-    match source(rt.alloc(), row.1) {
-        Ok(source) => is_each_made(rt, &source, row, span),
-        Err(_) => false,
-    }
-}
-
-/// Whether it holds if no read gives more than so many bytes.
-pub(crate) fn is_made_in_steps<R: AllocGlobal + Threads + Sync>(
-    rt: &R,
-    row: &Row,
-    step: usize,
-) -> bool {
+/// Whether a row holds if no read gives more than so many bytes.
+fn is_made_in_steps<R: AllocGlobal + Threads + Sync>(rt: &R, row: &Row, step: usize) -> bool {
     match source(rt.alloc(), row.1) {
         Ok(source) => is_each_made(rt, &ShortSource::new(source, step.max(1)), row, 1),
         Err(_) => false,
     }
 }
+
+/// The list of `a/c`, that has `y`, and `a-b`, that has `x`, in the folder `f`, with the SHA-1 of `yx`.
+const DASH_V1: &[u8] = b"d4:infod5:filesld6:lengthi1e4:pathl1:a1:ceed6:lengthi1e4:pathl3:a-beee\
+4:name1:f12:piece lengthi16384e6:pieces20:\
+\x62\xba\x52\x94\xe4\x45\xf5\xb1\x5f\x10\x07\xb8\xc9\x3c\xcb\x46\xea\xb2\xe7\xe7ee";
+
+/// Their tree: the key `a` comes before `a-b`.
+const DASH_V2: &[u8] = b"d4:infod9:file treed1:ad1:cd0:d6:lengthi1e11:pieces root32:\
+\xa1\xfc\xe4\x36\x38\x54\xff\x88\x8c\xff\x4b\x8e\x78\x75\xd6\x00\
+\xc2\x68\x23\x90\x41\x2a\x8c\xf7\x9b\x37\xd0\xb1\x11\x48\xb0\xfa\
+eee3:a-bd0:d6:lengthi1e11:pieces root32:\
+\x2d\x71\x16\x42\xb7\x26\xb0\x44\x01\x62\x7c\xa9\xfb\xac\x32\xf5\
+\xc8\x53\x0f\xb1\x90\x3c\xc4\xdb\x02\x25\x87\x17\x92\x1a\x48\x81\
+eee12:meta versioni2e4:name1:f12:piece lengthi16384ee12:piece layersdee";
 
 const MADE: &[Row] = &[
     ((Kind::V2, true, 16384, "a"), "a=abc", ABC),
@@ -126,11 +125,24 @@ const MADE: &[Row] = &[
     ((Kind::V1, false, 16384, "f"), "b=c a=ab", FOLDER_V1),
     ((Kind::Hybrid, false, 16384, "f"), "b=c a=ab", FOLDER_HYBRID),
     ((Kind::Hybrid, false, 16384, "f"), "a=ab b=c", FOLDER_HYBRID),
+    ((Kind::V1, false, 16384, "f"), "a-b=x a/c=y", DASH_V1),
+    ((Kind::V2, false, 16384, "f"), "a-b=x a/c=y", DASH_V2),
+    // Here `.pad` is the name of a file or a folder as any.
+    (V2, ".pad/1=x", b"made"),
+    (V1, ".pad/1=x", b"made"),
+    ((Kind::Hybrid, true, 16384, ".pad"), ".pad=x", b"made"),
 ];
 
-/// Whether a row holds however it is read.
-fn is_made_however_read<R: AllocGlobal + Threads + Sync>(rt: &R, row: &Row) -> bool {
-    is_made_in_steps(rt, row, 1) && is_made_in_steps(rt, row, 7) && is_made_at_once(rt, row, 1)
+/// How many bytes a read gives at most.
+const STEPS: &[usize] = &[1, 7, 16384];
+
+#[test]
+fn makes_torrents_of_a_source_however_it_is_read(rt: HostRuntime) {
+    for step in STEPS {
+        for row in MADE {
+            assert!(rt; is_made_in_steps(&rt, row, *step));
+        }
+    }
 }
 
 /// Tells of each file that it has so many bytes, and has none; counts what it is asked.
@@ -226,27 +238,6 @@ fn is_each_told<R: AllocGlobal + Threads + Sync>(rt: &R, told: &Told) -> bool {
     true
 }
 
-/// Files and shapes in which `.pad` is the name of a file or a folder as any.
-const TAKEN: &[Row] = &[
-    (V2, ".pad/1=x", b"made"),
-    (V1, ".pad/1=x", b"made"),
-    ((Kind::Hybrid, true, 16384, ".pad"), ".pad=x", b"made"),
-];
-
-fn is_taken<R: AllocGlobal + Threads + Sync>(rt: &R, row: &Row) -> bool {
-    is_made_in_steps(rt, row, 1) && is_made_in_steps(rt, row, 7) && is_made_in_steps(rt, row, 16384)
-}
-
-#[test]
-fn makes_torrents_of_a_source_however_it_is_read(rt: HostRuntime) {
-    for row in MADE {
-        assert!(rt; is_made_however_read(&rt, row));
-    }
-    for row in TAKEN {
-        assert!(rt; is_taken(&rt, row));
-    }
-}
-
 /// A request that fails: for the length of a file, or for a byte of it; and the number of the fault.
 type Failing = (u64, Option<u64>, u64);
 
@@ -300,13 +291,12 @@ fn is_fault<R: AllocGlobal + Threads + Sync>(rt: &R, row: &Fault, shape: Shape, 
     }
 }
 
-fn is_fault_of_each_kind<R: AllocGlobal + Threads + Sync>(rt: &R, row: &Fault, span: u32) -> bool {
-    is_fault(rt, row, V1, span) && is_fault(rt, row, V2, span) && is_fault(rt, row, HYBRID, span)
-}
+/// Each kind.
+const KINDS: &[Shape] = &[V1, V2, HYBRID];
 
 /// Two bytes of one unit of four pieces.
 const IN_ONE_UNIT: &Fault = &(
-    "a=#40000",
+    "a=*40000",
     (0, Some(20000), 1),
     (0, Some(17000), 2),
     b"Hashing(Read { file: 0, start: Some(17000), fault: 2 })",
@@ -401,23 +391,17 @@ fn is_change<R: AllocGlobal + Threads + Sync>(rt: &R, row: &Change, how: How) ->
     is_answer(rt, &source, &paths, &order, wanted)
 }
 
-/// Whether a row holds, each way to share the units.
-fn is_each_change<R: AllocGlobal + Threads + Sync>(rt: &R, row: &Change) -> bool {
-    for how in EACH_HOW {
-        if !is_change(rt, row, *how) {
-            return false;
-        }
-    }
-    true
-}
-
 #[test]
 fn tells_faults_under_the_numbers_handed_in(rt: HostRuntime) {
-    for row in FAULTS {
-        assert!(rt; is_fault_of_each_kind(&rt, row, 1));
+    for shape in KINDS {
+        for row in FAULTS {
+            assert!(rt; is_fault(&rt, row, *shape, 1));
+        }
+        assert!(rt; is_fault(&rt, IN_ONE_UNIT, *shape, 4));
     }
-    assert!(rt; is_fault_of_each_kind(&rt, IN_ONE_UNIT, 4));
-    for row in CHANGES {
-        assert!(rt; is_each_change(&rt, row));
+    for how in EACH_HOW {
+        for row in CHANGES {
+            assert!(rt; is_change(&rt, row, *how));
+        }
     }
 }

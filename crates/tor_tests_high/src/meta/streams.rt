@@ -2,7 +2,8 @@
 //! none.
 
 use crate::meta::contents::{ABC, EMPTY_HYBRID, EMPTY_V1, EMPTY_V2, FOLDER_HYBRID, FOLDER_V1};
-use crate::meta::given::{Row, Shape, contents, is, name, paths};
+use crate::meta::given::{Row, Shape, contents, is, paths};
+use crate::meta::sources::order;
 use std::alloc::{AllocError, Global};
 use std::io::{self, ErrorKind, Read};
 use std::process::Abort;
@@ -73,19 +74,10 @@ fn add_readers<'a>(
     Ok(())
 }
 
-fn order(alloc: Global, shape: &Shape, way: Way) -> Result<Order, AllocError> {
-    let (kind, single, piece_length, text) = *shape;
-    Ok(Order {
-        kind,
-        single,
-        name: name(alloc, text)?,
-        piece_length,
-        announce: None,
-        is_private: false,
-        tail: way.tail,
-        span: way.span,
-        how: way.how,
-    })
+fn order_of(alloc: Global, shape: &Shape, way: Way) -> Result<Order, AllocError> {
+    let mut order = order(alloc, shape)?;
+    (order.span, order.how, order.tail) = (way.span, way.how, way.tail);
+    Ok(order)
 }
 
 /// What is made of as many readers as paths.
@@ -107,7 +99,7 @@ fn made<R: AllocGlobal + Abort + Threads + Wait + Sync>(
     asked: &AtomicU64,
 ) -> Result<Vec<u8>, MakeError<io::Error>> {
     let alloc = rt.alloc();
-    let order = order(alloc, &row.0, way)?;
+    let order = order_of(alloc, &row.0, way)?;
     let paths = paths(alloc, row.1)?;
     let mut readers = Vec::new(alloc);
     add_readers(alloc, row.1, way, asked, &mut readers)?;

@@ -1,12 +1,12 @@
-//! Torrents whose last file with bytes has padding too (BEP 47, "padding files"), worked out by hand; each hash in
-//! hexadecimal is of Python's hashlib.
+//! Torrents of readers, and of one in a folder, whose last file with bytes has padding too (BEP 47, "padding files"),
+//! worked out by hand; each hash in hexadecimal is of Python's hashlib. Those that the program makes are in
+//! `tests/made.py`.
 
-use crate::meta::contents::{ABC, FOLDER_V1, head, made_of};
-use crate::meta::given::{Row, files, source};
-use crate::meta::sources::{asked, is_each_answer, order};
+use crate::meta::contents::{ABC, FOLDER_V1};
+use crate::meta::given::Row;
+use crate::meta::sources::order;
 use crate::meta::streams::is_made_each_way;
 use std::alloc::{AllocError, Global};
-use std::process::Abort;
 use std::sync::Wait;
 use std::thread::Threads;
 use tor_engine::How;
@@ -28,7 +28,7 @@ d6:lengthi1e4:pathl1:beed4:attr1:p6:lengthi16383e4:pathl4:.pad5:16383eee\
 e12:piece layersdee";
 
 /// The files of `FOLDER` and an empty file `c`: the tail stands directly after `b`.
-pub(crate) const EMPTY_AFTER: &[u8] = b"d4:infod9:file treed1:ad0:d6:lengthi2e11:pieces root32:\
+const EMPTY_AFTER: &[u8] = b"d4:infod9:file treed1:ad0:d6:lengthi2e11:pieces root32:\
 \xfb\x8e\x20\xfc\x2e\x4c\x3f\x24\x8c\x60\xc3\x9b\xd6\x52\xf3\xc1\
 \x34\x72\x98\xbb\x97\x7b\x8b\x4d\x59\x03\xb8\x50\x55\x62\x06\x03\
 ee1:bd0:d6:lengthi1e11:pieces root32:\
@@ -50,19 +50,6 @@ eee5:filesld6:lengthi2e4:pathl1:aeed4:attr1:p6:lengthi16382e4:pathl4:.pad5:16382
 \xcb\x25\xce\xe0\xc9\xee\x3f\xc5\x74\x13\xe4\x72\xac\xdb\x19\x13\x86\xed\xb6\x12\
 e12:piece layersdee";
 
-// `b` has 16,384 bytes 7, and no tail.
-const WHOLE: &[u8] = b"d4:infod9:file treed1:ad0:d6:lengthi2e11:pieces root32:\
-\xfb\x8e\x20\xfc\x2e\x4c\x3f\x24\x8c\x60\xc3\x9b\xd6\x52\xf3\xc1\
-\x34\x72\x98\xbb\x97\x7b\x8b\x4d\x59\x03\xb8\x50\x55\x62\x06\x03\
-ee1:bd0:d6:lengthi16384e11:pieces root32:\
-\x70\x98\x67\x37\x43\x5b\x5f\x89\xe1\x19\x55\x8b\xa7\xd2\x9e\x5b\
-\xb8\x76\x8d\xd1\x8c\x16\xbe\xaa\xaa\x09\x29\x8b\xf5\x86\xb2\x75\
-eee5:filesld6:lengthi2e4:pathl1:aeed4:attr1:p6:lengthi16382e4:pathl4:.pad5:16382eed6:lengthi16384e4:pathl1:beee\
-12:meta versioni2e4:name1:f12:piece lengthi16384e6:pieces40:\
-\xcb\x25\xce\xe0\xc9\xee\x3f\xc5\x74\x13\xe4\x72\xac\xdb\x19\x13\x86\xed\xb6\x12\
-\xe6\xd2\x5d\x25\x82\xfc\xd0\x98\xd2\xad\x8c\xa2\x38\x37\xb3\xc2\x81\x99\x75\xcf\
-e12:piece layersdee";
-
 const TAILED: &[Row] = &[
     ((Kind::Hybrid, false, 16384, "f"), "a=ab b=c", FOLDER),
     (
@@ -71,7 +58,6 @@ const TAILED: &[Row] = &[
         EMPTY_AFTER,
     ),
     ((Kind::Hybrid, false, 16384, "f"), "a=ab", ALONE),
-    ((Kind::Hybrid, false, 16384, "f"), "a=ab b=*16384", WHOLE),
     // Where files are not aligned, a tail changes nothing.
     ((Kind::V1, false, 16384, "f"), "a=ab b=c", FOLDER_V1),
     ((Kind::V2, true, 16384, "a"), "a=abc", ABC),
@@ -85,37 +71,6 @@ const SINGLE: &[u8] = b"d4:infod9:file treed1:ad0:d6:lengthi3e11:pieces root32:\
 eee6:lengthi3e12:meta versioni2e4:name1:a12:piece lengthi16384e6:pieces20:\
 \xa9\x99\x3e\x36\x47\x06\x81\x6a\xba\x3e\x25\x71\x78\x50\xc2\x6c\x9c\xd0\xd8\x9d\
 e12:piece layersdee";
-
-// Whether a row is made of a source, each way to share the units.
-fn is_made<R: AllocGlobal + Threads + Sync>(rt: &R, row: &Row) -> bool {
-    let Ok((mut order, paths)) = asked(rt.alloc(), &row.0, row.1) else {
-        return false;
-    };
-    order.tail = true;
-    match source(rt.alloc(), row.1) {
-        Ok(source) => is_each_answer(rt, &source, &paths, &mut order, row.2),
-        Err(_) => false,
-    }
-}
-
-// What is made of contents in memory.
-fn made_in_memory(alloc: Global, row: &Row) -> Result<Vec<u8>, AllocError> {
-    let mut head = head(alloc, &row.0)?;
-    head.tail = true;
-    made_of(alloc, files(alloc, row.1)?, &head)
-}
-
-fn is_made_in_memory(alloc: Global, row: &Row) -> bool {
-    match made_in_memory(alloc, row) {
-        Ok(bytes) => bytes.as_slice() == row.2,
-        Err(_) => false,
-    }
-}
-
-// Whether a row is made of a source, of readers and in memory.
-fn is_padded<R: AllocGlobal + Abort + Threads + Wait + Sync>(rt: &R, row: &Row) -> bool {
-    is_made(rt, row) && is_made_each_way(rt, row, true) && is_made_in_memory(rt.alloc(), row)
-}
 
 // One content in a folder.
 const INPUT: &[u8] = b"d4:infod9:file treed1:ad0:d6:lengthi3e11:pieces root32:\
@@ -150,7 +105,6 @@ fn is_made_by_workers<T: AllocGlobal + Threads + Wait + Sync + Send + Clone + Dr
     }
 }
 
-// Whether it is made both ways.
 fn is_input_padded<T: AllocGlobal + Threads + Wait + Sync + Send + Clone + Drop + 'static>(
     rt: &T,
 ) -> bool {
@@ -163,7 +117,7 @@ fn is_input_padded<T: AllocGlobal + Threads + Wait + Sync + Send + Clone + Drop 
 #[test]
 fn pads_the_last_file(rt: HostRuntime) {
     for row in TAILED {
-        assert!(rt; is_padded(&rt, row));
+        assert!(rt; is_made_each_way(&rt, row, true));
     }
     assert!(rt; is_input_padded(&rt));
 }

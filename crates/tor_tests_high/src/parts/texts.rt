@@ -1,4 +1,4 @@
-//! Lots as bytes, spelled by hand (BEP 3, "bencoding").
+//! Lots as bytes, spelled by hand (BEP 3, "bencoding"). What is no lot is in `tests/joining.py`.
 
 use std::alloc::{AllocError, Global};
 use tor_engine::PieceRow;
@@ -27,32 +27,6 @@ const WRITTEN: &[Row] = &[
         b"d6:hashes64:hhhhhhhhhhhhhhhhhhhhhhhhhhhhhhhhhhhhhhhhhhhhhhhhhhhhhhhhhhhhhhhh4:parti2e5:partsi65536e\
 6:pieces20:ssssssssssssssssssss4:plan32:ppppppppppppppppppppppppppppppppe",
     ),
-];
-
-/// What is no lot.
-const REFUSED: &[&[u8]] = &[
-    b"",
-    b"de",
-    // It is cut, or goes on.
-    b"d6:hashes0:4:parti0e5:partsi1e6:pieces0:4:plan32:pppppppppppppppppppppppppppppppp",
-    b"d6:hashes0:4:parti0e5:partsi1e6:pieces0:4:plan32:ppppppppppppppppppppppppppppppppee",
-    // Its number is not below how many there are, or these are too many.
-    b"d6:hashes0:4:parti1e5:partsi1e6:pieces0:4:plan32:ppppppppppppppppppppppppppppppppe",
-    b"d6:hashes0:4:parti0e5:partsi65537e6:pieces0:4:plan32:ppppppppppppppppppppppppppppppppe",
-    b"d6:hashes0:4:parti-1e5:partsi1e6:pieces0:4:plan32:ppppppppppppppppppppppppppppppppe",
-    b"d6:hashes0:4:parti4294967296e5:partsi1e6:pieces0:4:plan32:ppppppppppppppppppppppppppppppppe",
-    // A hash or the digest is a byte too short or too long.
-    b"d6:hashes31:hhhhhhhhhhhhhhhhhhhhhhhhhhhhhhh4:parti0e5:partsi1e6:pieces0:\
-4:plan32:ppppppppppppppppppppppppppppppppe",
-    b"d6:hashes33:hhhhhhhhhhhhhhhhhhhhhhhhhhhhhhhhh4:parti0e5:partsi1e6:pieces0:\
-4:plan32:ppppppppppppppppppppppppppppppppe",
-    b"d6:hashes0:4:parti0e5:partsi1e6:pieces0:4:plan31:pppppppppppppppppppppppppppppppe",
-    b"d6:hashes0:4:parti0e5:partsi1e6:pieces0:4:plan33:pppppppppppppppppppppppppppppppppe",
-    // A key too many, too few, of another value, or out of order.
-    b"d4:filei1e6:hashes0:4:parti0e5:partsi1e6:pieces0:4:plan32:ppppppppppppppppppppppppppppppppe",
-    b"d6:hashes0:4:parti0e5:partsi1e4:plan32:ppppppppppppppppppppppppppppppppe",
-    b"d6:hashes0:4:part1:05:partsi1e6:pieces0:4:plan32:ppppppppppppppppppppppppppppppppe",
-    b"d6:hashes0:5:partsi1e4:parti0e6:pieces0:4:plan32:ppppppppppppppppppppppppppppppppe",
 ];
 
 fn lot_of(alloc: Global, row: &Row) -> Result<Lot, AllocError> {
@@ -88,12 +62,5 @@ fn is_written(alloc: Global, row: &Row) -> bool {
 fn writes_lots_and_reads_them_back(rt: HostRuntime) {
     for row in WRITTEN {
         assert!(rt; is_written(rt.alloc(), row));
-    }
-}
-
-#[test]
-fn reads_nothing_that_is_no_lot(rt: HostRuntime) {
-    for bytes in REFUSED {
-        assert!(rt; matches!(read_lot(rt.alloc(), bytes), Ok(None)));
     }
 }

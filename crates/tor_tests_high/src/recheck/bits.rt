@@ -1,22 +1,9 @@
-//! Bits of pieces, in rows worked out by hand.
+//! Bits of pieces that no recheck shows one by one: past the end, of so many that room has to be made, and short of it.
+//! Bitfields are tried on the built program (`tests/found.py`).
 use crate::check::telling::is;
 use std::alloc::{AllocError, Global};
 use std::fmt::Write;
 use tor_recheck::Bits;
-
-/// The bits of these pieces: '1' if a piece is there and right.
-fn bits_of(alloc: Global, pieces: &str) -> Result<Bits, AllocError> {
-    let mut bits = Bits::with_capacity(alloc, pieces.len() as u64)?;
-    add_pieces(&mut bits, pieces)?;
-    Ok(bits)
-}
-
-fn add_pieces(bits: &mut Bits, pieces: &str) -> Result<(), AllocError> {
-    for piece in pieces.as_bytes() {
-        bits.push(*piece == b'1')?;
-    }
-    Ok(())
-}
 
 fn push_hex(text: &mut String, bytes: &[u8]) -> Result<(), AllocError> {
     for byte in bytes {
@@ -48,64 +35,22 @@ pub(crate) fn are_read_back(bits: &Bits, pieces: &str) -> bool {
     bits.get(bits.len()).is_none()
 }
 
-/// Whether there are as many bits as pieces, and so many of them are set.
-fn are_counted(bits: &Bits, pieces: &str, set: u64) -> bool {
-    bits.count_set() == set
-        && bits.len() == pieces.len() as u64
-        && bits.is_empty() == pieces.is_empty()
-}
-
-/// Pieces, their bitfield in hexadecimal, and how many of them are there and right.
-type Packed = (&'static str, &'static str, u64);
-
-const PACKED: &[Packed] = &[
-    ("", "", 0),
-    ("0", "00", 0),
-    ("1", "80", 1),
-    ("10", "80", 1),
-    ("01", "40", 1),
-    ("11", "c0", 2),
-    ("00000001", "01", 1),
-    ("11111111", "ff", 8),
-    ("111111111", "ff80", 9),
-    ("111111110", "ff00", 8),
-    ("000000001", "0080", 1),
-    ("111111111111111110", "ffff80", 17),
-    ("101100111000111100", "b38f00", 10),
-];
-
-fn is_packed(alloc: Global, row: &Packed) -> bool {
-    match bits_of(alloc, row.0) {
-        Ok(bits) => {
-            are_counted(&bits, row.0, row.2)
-                && are_read_back(&bits, row.0)
-                && is_hex(alloc, &bits, row.1)
-        }
-        Err(_) => false,
+fn add_bits(bits: &mut Bits, count: u32, each: u32) -> Result<(), AllocError> {
+    for index in 0..count {
+        bits.push(index % each.max(1) == 0)?;
     }
+    Ok(())
 }
 
-fn is_none_past_the_end(alloc: Global) -> bool {
-    match bits_of(alloc, "11111111") {
-        Ok(bits) => {
-            bits.get(7) == Some(true) && bits.get(8).is_none() && bits.get(u64::MAX).is_none()
-        }
-        Err(_) => false,
-    }
-}
-
-/// So many bits, of which each third one is set, in room for none.
-fn thirds(alloc: Global, count: u32) -> Result<Bits, AllocError> {
+/// So many bits, of which each so many is set, in room for none.
+pub(crate) fn bits_of(alloc: Global, count: u32, each: u32) -> Result<Bits, AllocError> {
     let mut bits = Bits::with_capacity(alloc, 0)?;
-    add_thirds(&mut bits, count)?;
+    add_bits(&mut bits, count, each)?;
     Ok(bits)
 }
 
-fn add_thirds(bits: &mut Bits, count: u32) -> Result<(), AllocError> {
-    for index in 0..count {
-        bits.push(index % 3 == 0)?;
-    }
-    Ok(())
+fn is_none_past_the_end(bits: &Bits) -> bool {
+    bits.get(7) == Some(true) && bits.get(8).is_none() && bits.get(u64::MAX).is_none()
 }
 
 /// Whether the bits are 200,000, of which each third one is set.
@@ -124,17 +69,16 @@ fn count_of_bytes(alloc: Global, bits: &Bits) -> usize {
 }
 
 fn is_grown(alloc: Global) -> bool {
-    match thirds(alloc, 200_000) {
+    match bits_of(alloc, 200_000, 3) {
         Ok(bits) => are_thirds(&bits) && count_of_bytes(alloc, &bits) == 25_000,
         Err(_) => false,
     }
 }
 
 #[test]
-fn packs_pieces_from_the_high_bit(rt: HostRuntime) {
-    for row in PACKED {
-        assert!(rt; is_packed(rt.alloc(), row));
-    }
-    assert!(rt; is_none_past_the_end(rt.alloc()));
-    assert!(rt; is_grown(rt.alloc()));
+fn makes_room_and_has_no_bit_past_the_end(rt: HostRuntime) {
+    let alloc = rt.alloc();
+    assert!(rt; matches!(bits_of(alloc, 8, 1), Ok(bits) if is_none_past_the_end(&bits)));
+    assert!(rt; matches!(bits_of(alloc, 0, 1), Ok(bits) if bits.is_empty()));
+    assert!(rt; is_grown(alloc));
 }

@@ -1,80 +1,67 @@
-//! Which pieces have bytes of each file, and which bytes of a file are in pieces whose bits are not set.
-use crate::check::telling::is;
-use crate::recheck::found::CROSSING;
-use crate::recheck::rechecks::{EMPTY, NINE, OF_BOTH, PADDED, torrent_of};
+//! Which bytes of a file are in pieces whose bits are not set, if there are fewer bits than pieces, as a recheck never
+//! has. A piece without a bit has none that is set. Others are tried on the built program (`tests/found.py`).
+use crate::recheck::bits::bits_of;
+use crate::recheck::rechecks::{PADDED, torrent_of};
 use std::alloc::{AllocError, Global};
 use tor_check::Torrent;
 use tor_recheck::{Bits, FilePieces, files_in_pieces};
 
-/// A torrent in parts, the bits of its pieces, and what is told of each file: its first piece, how many it has, its
-/// length, and the bytes of it that are in pieces whose bits are not set.
-type Row = (
-    &'static [&'static [u8]],
-    &'static [bool],
-    &'static [&'static str],
-);
+/// What is told of a file: its first piece, how many it has, its length, and the bytes of it that are in pieces whose
+/// bits are not set, one range at most.
+type Told = (u64, u64, u64, Option<(u64, u64)>);
 
-const ROWS: &[Row] = &[
-    // A piece across the end of one file and the beginning of another; between them an empty file.
-    (
-        CROSSING,
-        &[true, true, true],
-        &["0+2 3:", "1+0 0:", "1+2 2:"],
-    ),
-    (
-        CROSSING,
-        &[true, false, true],
-        &["0+2 3: 2..3", "1+0 0:", "1+2 2: 0..1"],
-    ),
-    (
-        CROSSING,
-        &[false, true, false],
-        &["0+2 3: 0..2", "1+0 0:", "1+2 2: 1..2"],
-    ),
-    (
-        CROSSING,
-        &[false, false, true],
-        &["0+2 3: 0..3", "1+0 0:", "1+2 2: 0..1"],
-    ),
-    // A piece without a bit has none that is set.
-    (CROSSING, &[true], &["0+2 3: 2..3", "1+0 0:", "1+2 2: 0..2"]),
-    (CROSSING, &[], &["0+2 3: 0..3", "1+0 0:", "1+2 2: 0..2"]),
-    // Pieces that do not hold side by side are one range, and those apart are several.
-    (
-        NINE,
-        &[false, false, true, false, true, true, true, true, false],
-        &["0+9 9: 0..2 3..4 8..9"],
-    ),
-    // Each file of a hybrid begins at a piece.
-    (OF_BOTH, &[false, true], &["0+1 2: 0..2", "1+1 1:"]),
-    (OF_BOTH, &[true, false], &["0+1 2:", "1+1 1: 0..1"]),
-    // Padding comes first.
-    (PADDED, &[true], &["17+1 1: 0..1"]),
-    (EMPTY, &[], &["0+0 0:"]),
+/// A torrent in parts, how many bits there are, which are all set, and what is told of each file.
+type Row = (&'static [&'static [u8]], u32, &'static [Told]);
+
+/// In version 1 `abc`, an empty file and `de`, in pieces of two bytes: the second has bytes of the first file and of
+/// the last.
+const CROSSING: &[&[u8]] = &[
+    b"d4:infod5:filesld6:lengthi3e4:pathl1:aeed6:lengthi0e4:pathl1:beed6:lengthi2e4:pathl1:ceee4:name1:f\
+12:piece lengthi2e6:pieces60:",
+    b"\xda\x23\x61\x4e\x02\x46\x9a\x0d\x7c\x7b\xd1\xbd\xab\x5c\x9c\x47\x4b\x19\x04\xdc",
+    b"\x03\x47\x78\x19\x8a\x04\x5c\x1e\xd8\x0b\xe2\x71\xcd\xd0\x29\xb7\x68\x74\xf6\xfc",
+    b"\x58\xe6\xb3\xa4\x14\xa1\xe0\x90\xdf\xc6\x02\x9a\xdd\x0f\x35\x55\xcc\xba\x12\x7f",
+    b"ee",
 ];
 
-fn bits_of(alloc: Global, row: &[bool]) -> Result<Bits, AllocError> {
-    let mut bits = Bits::with_capacity(alloc, row.len() as u64)?;
-    for bit in row {
-        bits.push(*bit)?;
-    }
-    Ok(bits)
+const ROWS: &[Row] = &[
+    (
+        CROSSING,
+        1,
+        &[
+            (0, 2, 3, Some((2, 3))),
+            (1, 0, 0, None),
+            (1, 2, 2, Some((0, 2))),
+        ],
+    ),
+    (
+        CROSSING,
+        0,
+        &[
+            (0, 2, 3, Some((0, 3))),
+            (1, 0, 0, None),
+            (1, 2, 2, Some((0, 2))),
+        ],
+    ),
+    (PADDED, 1, &[(17, 1, 1, Some((0, 1)))]),
+];
+
+fn is_told(alloc: Global, file: &FilePieces, bits: &Bits, wanted: &Told) -> bool {
+    let (first, count, length, range) = *wanted;
+    let Ok(ranges) = file.bad_ranges(alloc, bits) else {
+        return false;
+    };
+    let is_range = match ranges.as_slice() {
+        [] => range.is_none(),
+        [only] => range == Some((only.from, only.to)),
+        _ => false,
+    };
+    is_range && (file.first(), file.count(), file.length()) == (first, count, length)
 }
 
-/// What is told of a file, as in the rows.
-fn shown(alloc: Global, file: &FilePieces, bits: &Bits) -> Result<String, AllocError> {
-    let (first, count, length) = (file.first(), file.count(), file.length());
-    let mut text = format!(in alloc; "{first}+{count} {length}:")?;
-    for range in &file.bad_ranges(alloc, bits)? {
-        let more = format!(in alloc; " {}..{}", range.from, range.to)?;
-        text.push_str(&more)?;
-    }
-    Ok(text)
-}
-
-fn are_told(alloc: Global, files: &[FilePieces], bits: &Bits, wanted: &[&str]) -> bool {
-    for (file, text) in files.iter().zip(wanted.iter()) {
-        if !is(shown(alloc, file, bits), text) {
+fn are_told(alloc: Global, files: &[FilePieces], bits: &Bits, wanted: &[Told]) -> bool {
+    for (file, told) in files.iter().zip(wanted.iter()) {
+        if !is_told(alloc, file, bits, told) {
             return false;
         }
     }
@@ -85,7 +72,7 @@ fn are_files_told(
     alloc: Global,
     torrent: &Torrent,
     bits: &Bits,
-    wanted: &[&str],
+    wanted: &[Told],
 ) -> Result<bool, AllocError> {
     Ok(are_told(alloc, &files_in_pieces(alloc, torrent)?, bits, wanted))
 }
@@ -94,13 +81,13 @@ fn is_right(alloc: Global, row: &Row) -> Result<bool, AllocError> {
     are_files_told(
         alloc,
         &torrent_of(alloc, row.0)?,
-        &bits_of(alloc, row.1)?,
+        &bits_of(alloc, row.1, 1)?,
         row.2,
     )
 }
 
 #[test]
-fn tells_which_bytes_are_bad(rt: HostRuntime) {
+fn tells_bytes_of_pieces_without_a_bit(rt: HostRuntime) {
     for row in ROWS {
         assert!(rt; matches!(is_right(rt.alloc(), row), Ok(true)));
     }

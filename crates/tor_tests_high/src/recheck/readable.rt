@@ -1,159 +1,26 @@
 //! Torrents rechecked against files of which places fail, and the recheck keeps going.
 
-use crate::check::telling::is;
-use crate::recheck::rechecks::{JOINED, OF_BOTH, OF_OTHER_SUM, files_of, is_told, torrent_of};
+use crate::check::telling::{Parts, is};
+use crate::recheck::rechecks::{
+    FaultAt, JOINED, OF_BOTH, OF_OTHER_SUM, failing, is_told, torrent_of,
+};
 use std::alloc::{AllocError, Global};
 use std::thread::Threads;
 use tor_check::Torrent;
 use tor_engine::{How, ReadFault};
 use tor_recheck::{FileFound, ReadableFindings, recheck_readable};
-use tor_source::{FailSource, MemSource};
-
-/// A fault: of a file, for its length or at an offset; and its number.
-type FaultAt = (u64, Option<u64>, u64);
+use tor_source::FailSource;
 
 /// A torrent in parts, the files that are there, their faults, and what is told: the bits and the bitfield, the state
 /// of each file, and each fault.
 type Row = (
-    &'static [&'static [u8]],
-    &'static [Option<&'static [u8]>],
+    Parts,
+    &'static str,
     &'static [FaultAt],
     &'static str,
     &'static str,
     &'static str,
 );
-
-const ROWS: &[Row] = &[
-    // Nothing fails.
-    (
-        OF_BOTH,
-        &[Some(b"ab"), Some(b"c")],
-        &[],
-        "11 c0",
-        "Whole Whole ",
-        "",
-    ),
-    // The first file cannot be read, the second is told all the same.
-    (
-        OF_BOTH,
-        &[Some(b"ab"), Some(b"c")],
-        &[(0, Some(0), 4)],
-        "01 40",
-        "Bad Whole ",
-        "0 Some(0) 4, ",
-    ),
-    // Its second byte alone, and the length of the second.
-    (
-        OF_BOTH,
-        &[Some(b"ab"), Some(b"c")],
-        &[(0, Some(1), 5), (1, None, 6)],
-        "00 00",
-        "Bad Missing ",
-        "1 None 6, 0 Some(1) 5, ",
-    ),
-    // A byte that no piece has, of a file that is longer, and one of a piece that is not there.
-    (
-        OF_BOTH,
-        &[Some(b"a"), Some(b"cx")],
-        &[(0, Some(0), 4), (1, Some(1), 5)],
-        "01 40",
-        "Short Whole ",
-        "",
-    ),
-    // The SHA-1 departs, and the other file fails.
-    (
-        OF_OTHER_SUM,
-        &[Some(b"ab"), Some(b"c")],
-        &[(1, Some(0), 9)],
-        "00 00",
-        "Whole Bad ",
-        "1 Some(0) 9, ",
-    ),
-    // One piece of two files, of which each fails, and one of them.
-    (
-        JOINED,
-        &[Some(b"ab"), Some(b"c")],
-        &[(1, Some(0), 8), (0, Some(1), 7)],
-        "0 00",
-        "Bad Bad ",
-        "0 Some(1) 7, 1 Some(0) 8, ",
-    ),
-    (
-        JOINED,
-        &[Some(b"ab"), Some(b"c")],
-        &[(1, Some(0), 8)],
-        "0 00",
-        "Bad Bad ",
-        "1 Some(0) 8, ",
-    ),
-];
-
-/// Each way to share the units that is tried.
-const EACH_HOW: &[How] = &[How::One, How::Halves(2), How::Board(4)];
-
-fn failing(alloc: Global, files: MemSource, at: &[FaultAt]) -> Result<FailSource, AllocError> {
-    Ok(FailSource::new(files, Vec::from_slice(alloc, at)?))
-}
-
-fn states(alloc: Global, files: &[FileFound]) -> Result<String, AllocError> {
-    let mut text = String::new(alloc);
-    for file in files {
-        let state = file.state;
-        text.push_str(&format!(in alloc; "{state:?} ")?)?;
-    }
-    Ok(text)
-}
-
-fn faults_told(alloc: Global, faults: &[ReadFault<u64>]) -> Result<String, AllocError> {
-    let mut text = String::new(alloc);
-    for told in faults {
-        let ReadFault { file, start, fault } = told;
-        text.push_str(&format!(in alloc; "{file} {start:?} {fault}, ")?)?;
-    }
-    Ok(text)
-}
-
-fn is_found(
-    alloc: Global,
-    told: &ReadableFindings<u64>,
-    bits: &str,
-    files: &str,
-    faults: &str,
-) -> bool {
-    is_told(alloc, &told.found.bits, bits)
-        && is(states(alloc, &told.found.files), files)
-        && is(faults_told(alloc, &told.faults), faults)
-}
-
-fn is_each_answer<R: AllocGlobal + Threads + Sync>(
-    rt: &R,
-    source: &FailSource,
-    torrent: &Torrent,
-    bits: &str,
-    files: &str,
-    faults: &str,
-) -> bool {
-    for how in EACH_HOW {
-        match recheck_readable(rt, rt.alloc(), source, torrent, *how) {
-            Ok(told) if is_found(rt.alloc(), &told, bits, files, faults) => {}
-            _ => return false,
-        }
-    }
-    true
-}
-
-fn is_right<R: AllocGlobal + Threads + Sync>(rt: &R, row: &Row) -> Result<bool, AllocError> {
-    let torrent = torrent_of(rt.alloc(), row.0)?;
-    let source = failing(rt.alloc(), files_of(rt.alloc(), row.1)?, row.2)?;
-    Ok(is_each_answer(rt, &source, &torrent, row.3, row.4, row.5))
-}
-
-#[test]
-fn keeps_going_where_places_fail(rt: HostRuntime) {
-    for row in ROWS {
-        assert!(rt; is_right(&rt, row) == Ok(true));
-    }
-}
 
 /// The SHA-1 of 16,384 zeros.
 const ZEROS: &[u8] = b"\x89\x72\x56\xb6\x70\x9e\x1a\x4d\xa9\xda\
@@ -205,36 +72,138 @@ const FORTY: &[&[u8]] = &[
     b"ee",
 ];
 
-/// Within a piece of the first unit, at the first byte of one of the second and the last byte of one of the third; a
-/// later one of the first is not met.
-const FAULTS: &[FaultAt] = &[
-    (0, Some(60_000), 2),
-    (0, Some(50_000), 1),
-    (0, Some(278_528), 3),
-    (0, Some(655_359), 4),
+const ROWS: &[Row] = &[
+    // Nothing fails.
+    (OF_BOTH, "a=ab b=c", &[], "11 c0", "Whole Whole ", ""),
+    // The first file cannot be read, the second is told all the same.
+    (
+        OF_BOTH,
+        "a=ab b=c",
+        &[(0, Some(0), 4)],
+        "01 40",
+        "Bad Whole ",
+        "0 Some(0) 4, ",
+    ),
+    // Its second byte alone, and the length of the second.
+    (
+        OF_BOTH,
+        "a=ab b=c",
+        &[(0, Some(1), 5), (1, None, 6)],
+        "00 00",
+        "Bad Missing ",
+        "1 None 6, 0 Some(1) 5, ",
+    ),
+    // A byte that no piece has, of a file that is longer, and one of a piece that is not there.
+    (
+        OF_BOTH,
+        "a=a b=cx",
+        &[(0, Some(0), 4), (1, Some(1), 5)],
+        "01 40",
+        "Short Whole ",
+        "",
+    ),
+    // The SHA-1 departs, and the other file fails.
+    (
+        OF_OTHER_SUM,
+        "a=ab b=c",
+        &[(1, Some(0), 9)],
+        "00 00",
+        "Whole Bad ",
+        "1 Some(0) 9, ",
+    ),
+    // One piece of two files, of which each fails, and one of them.
+    (
+        JOINED,
+        "a=ab b=c",
+        &[(1, Some(0), 8), (0, Some(1), 7)],
+        "0 00",
+        "Bad Bad ",
+        "0 Some(1) 7, 1 Some(0) 8, ",
+    ),
+    (
+        JOINED,
+        "a=ab b=c",
+        &[(1, Some(0), 8)],
+        "0 00",
+        "Bad Bad ",
+        "1 Some(0) 8, ",
+    ),
+    // Within a piece of the first unit of forty, at the first byte of one of the second and the last byte of one of the
+    // third; a later one of the first is not met.
+    (
+        FORTY,
+        "a=*655360",
+        &[
+            (0, Some(60_000), 2),
+            (0, Some(50_000), 1),
+            (0, Some(278_528), 3),
+            (0, Some(655_359), 4),
+        ],
+        "1110111111111111101111111111111111111110 efffbffffe",
+        "Bad ",
+        "0 Some(50000) 1, 0 Some(278528) 3, 0 Some(655359) 4, ",
+    ),
 ];
 
-fn is_right_of_forty<R: AllocGlobal + Threads + Sync>(
-    rt: &R,
-    at: &[FaultAt],
+/// Each way to share the units that is tried.
+const EACH_HOW: &[How] = &[How::One, How::Halves(2), How::Board(4)];
+
+fn states(alloc: Global, files: &[FileFound]) -> Result<String, AllocError> {
+    let mut text = String::new(alloc);
+    for file in files {
+        let state = file.state;
+        text.push_str(&format!(in alloc; "{state:?} ")?)?;
+    }
+    Ok(text)
+}
+
+fn faults_told(alloc: Global, faults: &[ReadFault<u64>]) -> Result<String, AllocError> {
+    let mut text = String::new(alloc);
+    for told in faults {
+        let ReadFault { file, start, fault } = told;
+        text.push_str(&format!(in alloc; "{file} {start:?} {fault}, ")?)?;
+    }
+    Ok(text)
+}
+
+fn is_found(
+    alloc: Global,
+    told: &ReadableFindings<u64>,
     bits: &str,
+    files: &str,
     faults: &str,
-) -> Result<bool, AllocError> {
-    let torrent = torrent_of(rt.alloc(), FORTY)?;
-    let content = vec![in rt.alloc(); 0; 655_360]?;
-    let files = MemSource::new(vec![in rt.alloc(); Some(content)]?);
-    let source = failing(rt.alloc(), files, at)?;
-    Ok(is_each_answer(rt, &source, &torrent, bits, "Bad ", faults))
+) -> bool {
+    is_told(alloc, &told.found.bits, bits)
+        && is(states(alloc, &told.found.files), files)
+        && is(faults_told(alloc, &told.faults), faults)
+}
+
+fn is_each_answer<R: AllocGlobal + Threads + Sync>(
+    rt: &R,
+    source: &FailSource,
+    torrent: &Torrent,
+    bits: &str,
+    files: &str,
+    faults: &str,
+) -> bool {
+    for how in EACH_HOW {
+        match recheck_readable(rt, rt.alloc(), source, torrent, *how) {
+            Ok(told) if is_found(rt.alloc(), &told, bits, files, faults) => {}
+            _ => return false,
+        }
+    }
+    true
+}
+
+fn is_right<R: AllocGlobal + Threads + Sync>(rt: &R, row: &Row) -> Result<bool, AllocError> {
+    let torrent = torrent_of(rt.alloc(), row.0)?;
+    let source = failing(rt.alloc(), row.1, row.2)?;
+    Ok(is_each_answer(rt, &source, &torrent, row.3, row.4, row.5))
 }
 
 #[test]
-fn judges_the_pieces_beside_those_that_fail(rt: HostRuntime) {
-    assert!(rt;
-        is_right_of_forty(
-            &rt,
-            FAULTS,
-            "1110111111111111101111111111111111111110 efffbffffe",
-            "0 Some(50000) 1, 0 Some(278528) 3, 0 Some(655359) 4, ",
-        ) == Ok(true)
-    );
+fn keeps_going_where_places_fail(rt: HostRuntime) {
+    for row in ROWS {
+        assert!(rt; is_right(&rt, row) == Ok(true));
+    }
 }

@@ -1,7 +1,8 @@
-//! Torrents rechecked against files in memory. The hashes are of Python's hashlib.
+//! Torrents rechecked against files in memory, each way to share the units. The hashes are of Python's hashlib.
 ghost use Rattle.tor_source.specs.Answers.{any_answers};
 
-use crate::check::telling::{is, joined};
+use crate::check::telling::{Parts, is, joined};
+use crate::meta::given::source;
 use crate::recheck::bits::{are_read_back, is_hex};
 use std::alloc::{AllocError, Global};
 use std::sync::atomic::AtomicU64;
@@ -10,7 +11,7 @@ use std::thread::Threads;
 use tor_check::{Torrent, validate};
 use tor_engine::How;
 use tor_recheck::{Bits, recheck};
-use tor_source::{FailSource, MemSource, Source};
+use tor_source::{FailSource, Source};
 
 /// Each way to share the units.
 const EACH_HOW: &[How] = &[
@@ -23,12 +24,12 @@ const EACH_HOW: &[How] = &[
     How::Board(64),
 ];
 
-/// A torrent in parts, the files that are there, and which pieces are there and right: their bits, and the bitfield.
-type Row = (
-    &'static [&'static [u8]],
-    &'static [Option<&'static [u8]>],
-    &'static str,
-);
+/// A fault: of a file, for its length or at an offset; and its number.
+pub(crate) type FaultAt = (u64, Option<u64>, u64);
+
+/// A torrent in parts, the files that are there, their faults, and what is answered: which pieces are there and right by
+/// their bits and, after a space, the bitfield; or why there are none.
+type Row = (Parts, &'static str, &'static [FaultAt], &'static str);
 
 /// The SHA-256 of `ab`, and of `c`.
 const ROOT_A: &[u8] = b"\xfb\x8e\x20\xfc\x2e\x4c\x3f\x24\x8c\x60\xc3\x9b\xd6\x52\xf3\xc1\
@@ -149,30 +150,49 @@ const LONG: &[&[u8]] = &[
 ];
 
 const ROWS: &[Row] = &[
-    (OF_BOTH, &[Some(b"ab"), Some(b"c")], "11 c0"),
-    (OF_BOTH, &[Some(b"ab"), None], "10 80"),
-    (OF_BOTH, &[], "00 00"),
-    (OF_BOTH, &[Some(b"ab"), Some(b"d")], "10 80"),
-    (OF_BOTH, &[Some(b"a"), Some(b"c")], "01 40"),
+    (OF_BOTH, "a=ab b=c", &[], "11 c0"),
+    (OF_BOTH, "a=ab b", &[], "10 80"),
+    (OF_BOTH, "", &[], "00 00"),
+    (OF_BOTH, "a=ab b=d", &[], "10 80"),
+    (OF_BOTH, "a=a b=c", &[], "01 40"),
     // The byte past the end is not read.
-    (OF_BOTH, &[Some(b"ab"), Some(b"cx")], "11 c0"),
-    (OF_OTHER_SUM, &[Some(b"ab"), Some(b"c")], "01 40"),
-    (OF_OTHER_ROOT, &[Some(b"ab"), Some(b"c")], "01 40"),
-    (JOINED, &[Some(b"ab"), Some(b"c")], "1 80"),
-    (JOINED, &[Some(b"ab"), None], "0 00"),
-    (JOINED, &[Some(b"ab"), Some(b"cx")], "1 80"),
-    (JOINED, &[Some(b"abc"), Some(b"c")], "1 80"),
+    (OF_BOTH, "a=ab b=cx", &[], "11 c0"),
+    (OF_OTHER_SUM, "a=ab b=c", &[], "01 40"),
+    (OF_OTHER_ROOT, "a=ab b=c", &[], "01 40"),
+    (JOINED, "a=ab b=c", &[], "1 80"),
+    (JOINED, "a=ab b", &[], "0 00"),
+    (JOINED, "a=ab b=cx", &[], "1 80"),
+    (JOINED, "a=abc b=c", &[], "1 80"),
     // No piece, whether the file is there or not.
-    (EMPTY, &[Some(b"")], " "),
-    (EMPTY, &[None], " "),
-    (NINE, &[Some(b"abcdefghi")], "111111111 ff80"),
-    (NINE, &[Some(b"abcdefgh")], "111111110 ff00"),
-    (NINE, &[Some(b"abcdXfghi")], "111101111 f780"),
-    (NINE, &[None], "000000000 0000"),
+    (EMPTY, "a=", &[], " "),
+    (EMPTY, "a", &[], " "),
+    (NINE, "a=abcdefghi", &[], "111111111 ff80"),
+    (NINE, "a=abcdefgh", &[], "111111110 ff00"),
+    (NINE, "a=abcdXfghi", &[], "111101111 f780"),
+    (NINE, "a", &[], "000000000 0000"),
     // Padding is always there.
-    (PADDED, &[None], "111111111111111110 ffff80"),
-    (PADDED, &[Some(b"x")], "111111111111111111 ffffc0"),
-    (LONG, &[None], "00 00"),
+    (PADDED, "a", &[], "111111111111111110 ffff80"),
+    (PADDED, "a=x", &[], "111111111111111111 ffffc0"),
+    (LONG, "a", &[], "00 00"),
+    // The whole of the file, and its first block alone.
+    (LONG, "a=*16385", &[], "11 c0"),
+    (LONG, "a=*16384", &[], "10 80"),
+    // Byte 0 of the first file, which is read.
+    (
+        OF_BOTH,
+        "a=ab b=c",
+        &[(0, Some(0), 4)],
+        "Read { file: 0, start: Some(0), fault: 4 }",
+    ),
+    // Byte 0 of the first file, which is not read, since the file has another length.
+    (OF_BOTH, "a=a b=c", &[(0, Some(0), 4)], "01 40"),
+    // A length.
+    (
+        OF_BOTH,
+        "",
+        &[(1, None, 7)],
+        "Read { file: 1, start: None, fault: 7 }",
+    ),
 ];
 
 /// The torrent that the parts are. That they are none, as in none of the tables, is told as want of memory.
@@ -181,28 +201,14 @@ pub(crate) fn torrent_of(alloc: Global, parts: &[&[u8]]) -> Result<Torrent, Allo
     validate(alloc, &bytes).ok().ok_or(AllocError)
 }
 
-fn content(alloc: Global, file: &Option<&[u8]>) -> Result<Option<Vec<u8>>, AllocError> {
-    match file {
-        Some(bytes) => Ok(Some(Vec::from_slice(alloc, bytes)?)),
-        None => Ok(None),
-    }
-}
-
-fn add_contents(
+/// A source of the files that a text gives, with these faults.
+pub(crate) fn failing(
     alloc: Global,
-    files: &[Option<&[u8]>],
-    contents: &mut Vec<Option<Vec<u8>>>,
-) -> Result<(), AllocError> {
-    for file in files {
-        contents.push(content(alloc, file)?)?;
-    }
-    Ok(())
-}
-
-pub(crate) fn files_of(alloc: Global, files: &[Option<&[u8]>]) -> Result<MemSource, AllocError> {
-    let mut contents = Vec::new(alloc);
-    add_contents(alloc, files, &mut contents)?;
-    Ok(MemSource::new(contents))
+    given: &str,
+    at: &[FaultAt],
+) -> Result<FailSource, AllocError> {
+    let faults = Vec::from_slice(alloc, at)?;
+    Ok(FailSource::new(source(alloc, given)?, faults))
 }
 
 /// Whether these are the bits, and after a space the bitfield in hexadecimal.
@@ -227,102 +233,28 @@ fn is_answer<S: Source, R: AllocGlobal + Threads + Sync>(
     }
 }
 
-/// Whether it is, each way to share the units.
+/// Whether it is, each of these ways to share the units.
 fn is_each_answer<S: Source, R: AllocGlobal + Threads + Sync>(
     rt: &R,
     source: &S,
-    torrent: &Torrent,
+    parts: &[&[u8]],
+    each_how: &[How],
     wanted: &str,
 ) -> bool {
-    for how in EACH_HOW {
-        if !is_answer(rt, source, torrent, *how, wanted) {
+    let Ok(torrent) = torrent_of(rt.alloc(), parts) else {
+        return false;
+    };
+    for how in each_how {
+        if !is_answer(rt, source, &torrent, *how, wanted) {
             return false;
         }
     }
     true
 }
 
-/// Whether it is of the torrent that the parts are.
-fn is_each_answer_of<S: Source, R: AllocGlobal + Threads + Sync>(
-    rt: &R,
-    source: &S,
-    parts: &[&[u8]],
-    wanted: &str,
-) -> bool {
-    match torrent_of(rt.alloc(), parts) {
-        Ok(torrent) => is_each_answer(rt, source, &torrent, wanted),
-        Err(_) => false,
-    }
-}
-
-fn is_right<R: AllocGlobal + Threads + Sync>(rt: &R, row: &Row) -> bool {
-    match files_of(rt.alloc(), row.1) {
-        Ok(source) => is_each_answer_of(rt, &source, row.0, row.2),
-        Err(_) => false,
-    }
-}
-
-/// A source of one file of so many zeros.
-fn source_of_zeros(alloc: Global, length: usize) -> Result<MemSource, AllocError> {
-    let content = vec![in alloc; 0; length]?;
-    Ok(MemSource::new(vec![in alloc; Some(content)]?))
-}
-
-/// Whether this is answered of the pieces of LONG, if so many zeros are there.
-fn is_answered_of_zeros<R: AllocGlobal + Threads + Sync>(
-    rt: &R,
-    length: usize,
-    wanted: &str,
-) -> bool {
-    match source_of_zeros(rt.alloc(), length) {
-        Ok(source) => is_each_answer_of(rt, &source, LONG, wanted),
-        Err(_) => false,
-    }
-}
-
-/// The whole of the file, and its first block alone.
-const OF_ZEROS: &[(usize, &str)] = &[(16_385, "11 c0"), (16_384, "10 80")];
-
-/// A fault: of a file, for its length or at an offset; and its number.
-type FaultAt = (u64, Option<u64>, u64);
-
-fn failing(alloc: Global, files: &[Option<&[u8]>], at: FaultAt) -> Result<FailSource, AllocError> {
-    let faults = vec![in alloc; at]?;
-    Ok(FailSource::new(files_of(alloc, files)?, faults))
-}
-
-/// Files of OF_BOTH, a fault, and what is answered.
-type Fault = (&'static [Option<&'static [u8]>], FaultAt, &'static str);
-
-const FAULTS: &[Fault] = &[
-    // Byte 0 of the first file, which is read.
-    (
-        &[Some(b"ab"), Some(b"c")],
-        (0, Some(0), 4),
-        "Read { file: 0, start: Some(0), fault: 4 }",
-    ),
-    // Byte 0 of the first file, which is not read, since the file has another length.
-    (&[Some(b"a"), Some(b"c")], (0, Some(0), 4), "01 40"),
-    // A length.
-    (&[], (1, None, 7), "Read { file: 1, start: None, fault: 7 }"),
-];
-
-fn is_fault<R: AllocGlobal + Threads + Sync>(rt: &R, row: &Fault) -> bool {
-    match failing(rt.alloc(), row.0, row.1) {
-        Ok(source) => is_each_answer_of(rt, &source, OF_BOTH, row.2),
-        Err(_) => false,
-    }
-}
-
-/// Whether this is answered of the pieces of OF_BOTH.
-fn is_answer_of_both<S: Source, R: AllocGlobal + Threads + Sync>(
-    rt: &R,
-    source: &S,
-    how: How,
-    wanted: &str,
-) -> bool {
-    match torrent_of(rt.alloc(), OF_BOTH) {
-        Ok(torrent) => is_answer(rt, source, &torrent, how, wanted),
+fn is_right<R: AllocGlobal + Threads + Sync>(rt: &R, row: &Row, each_how: &[How]) -> bool {
+    match failing(rt.alloc(), row.1, row.2) {
+        Ok(source) => is_each_answer(rt, &source, row.0, each_how, row.3),
         Err(_) => false,
     }
 }
@@ -336,13 +268,8 @@ const OUTSIDE: &[How] = &[
     How::Board(65),
 ];
 
-/// Whether the workers are refused if the length of a file fails too.
-fn are_workers_refused<R: AllocGlobal + Threads + Sync>(rt: &R, how: How) -> bool {
-    match failing(rt.alloc(), &[], (0, None, 4)) {
-        Ok(source) => is_answer_of_both(rt, &source, how, "Workers"),
-        Err(_) => false,
-    }
-}
+/// They are refused if the length of a file fails too.
+const REFUSED: &Row = &(OF_BOTH, "", &[(0, None, 4)], "Workers");
 
 /// Files of two bytes and of one. Once both lengths were asked, one of the files is told to have another.
 #[derive(Drop)]
@@ -372,6 +299,7 @@ impl Source for Changing {
 }
 
 /// The file, what it is told to have when it is asked again, and what is answered of the pieces.
+/// The file, what it is told to have when it is asked again, and what is answered of the pieces.
 type Change = (u64, Option<u64>, &'static str);
 
 const CHANGES: &[Change] = &[
@@ -388,27 +316,15 @@ fn is_change<R: AllocGlobal + Threads + Sync>(rt: &R, row: &Change) -> bool {
         again,
         asked: AtomicU64::new(0),
     };
-    is_answer_of_both(rt, &source, How::Halves(2), wanted)
+    is_each_answer(rt, &source, OF_BOTH, &[How::Halves(2)], wanted)
 }
 
 #[test]
-fn tells_which_pieces_are_there_and_right(rt: HostRuntime) {
+fn tells_which_pieces_are_there_and_right_or_the_first_fault(rt: HostRuntime) {
     for row in ROWS {
-        assert!(rt; is_right(&rt, row));
+        assert!(rt; is_right(&rt, row, EACH_HOW));
     }
-    for (length, wanted) in OF_ZEROS {
-        assert!(rt; is_answered_of_zeros(&rt, *length, wanted));
-    }
-}
-
-#[test]
-fn tells_the_first_fault(rt: HostRuntime) {
-    for row in FAULTS {
-        assert!(rt; is_fault(&rt, row));
-    }
-    for how in OUTSIDE {
-        assert!(rt; are_workers_refused(&rt, *how));
-    }
+    assert!(rt; is_right(&rt, REFUSED, OUTSIDE));
     for row in CHANGES {
         assert!(rt; is_change(&rt, row));
     }

@@ -108,16 +108,6 @@ fn is_first_fault<R: AllocGlobal + Abort + Threads + Sync>(
     }
 }
 
-/// Whether it is, of each kind.
-fn is_first_fault_of_each_kind<R: AllocGlobal + Abort + Threads + Sync>(
-    rt: &R,
-    row: &Faults,
-) -> bool {
-    is_first_fault(rt, row, Kind::V1)
-        && is_first_fault(rt, row, Kind::V2)
-        && is_first_fault(rt, row, Kind::Hybrid)
-}
-
 /// A file that others change: how long it is told to be at first, and when it is asked again, and how many bytes it
 /// gives; and how often bytes were asked. All other files are empty.
 #[derive(Drop)]
@@ -245,15 +235,39 @@ fn is_fault_of_lengths<R: AllocGlobal + Abort + Threads + Sync>(rt: &R, row: &Le
     }
 }
 
+/// Whether the fault of this byte of ten blocks is answered.
+fn is_fault_at<R: AllocGlobal + Abort + Threads + Sync>(
+    rt: &R,
+    source: &FailSource,
+    offset: u64,
+) -> bool {
+    match format!(in rt.alloc(); "Read {{ file: 0, start: Some({offset}), fault: 5 }}") {
+        Ok(wanted) => is_planned_fault(rt, source, &[163840], Kind::V2, &wanted),
+        Err(_) => false,
+    }
+}
+
+fn is_answered<R: AllocGlobal + Abort + Threads + Sync>(rt: &R, offset: u64) -> bool {
+    match failing(rt.alloc(), &[163840], &[(0, Some(offset), 5)]) {
+        Ok(source) => is_fault_at(rt, &source, offset),
+        Err(_) => false,
+    }
+}
+
 #[test]
 fn answers_the_first_fault_in_the_order_of_the_plan(rt: HostRuntime) {
     for row in FAULTS {
-        assert!(rt; is_first_fault_of_each_kind(&rt, row));
+        assert!(rt; is_first_fault(&rt, row, Kind::V1));
+        assert!(rt; is_first_fault(&rt, row, Kind::V2));
+        assert!(rt; is_first_fault(&rt, row, Kind::Hybrid));
     }
     for row in CHANGES {
         assert!(rt; is_each_change(&rt, row));
     }
     for row in LENGTHS {
         assert!(rt; is_fault_of_lengths(&rt, row));
+    }
+    for turn in 0..40u64 {
+        assert!(rt; is_answered(&rt, turn.saturating_mul(4096)));
     }
 }

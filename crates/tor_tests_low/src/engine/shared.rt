@@ -1,7 +1,7 @@
 //! What the tests share: plans, how files are hashed, and how a read waits for others.
 ghost use Rattle.tor_sums.specs.How.{IsHow};
 
-use crate::shared::{content, is, path};
+use crate::shared::{self, content, is};
 use std::alloc::{AllocError, Global};
 use std::fmt::Debug;
 use std::process::Abort;
@@ -11,7 +11,7 @@ use std::thread::{Threads, yield_now};
 use tor_engine::{EngineError, How, Sums, hash_all};
 use tor_plan::Plan;
 use tor_source::{MemSource, Source};
-use tor_tree::{FileList, FilePath, Kind};
+use tor_tree::{FileList, Kind};
 
 /// Each way to share the units.
 pub(crate) const EACH_HOW: &[How] = &[
@@ -24,32 +24,14 @@ pub(crate) const EACH_HOW: &[How] = &[
     How::Board(64),
 ];
 
-/// The paths of files, of which no table has more.
-const PATHS: &[&str] = &["000", "001", "002"];
-
-fn path_at(alloc: Global, index: usize) -> Result<FilePath, AllocError> {
-    match PATHS.get(index) {
-        Some(text) => path(alloc, text),
-        None => Err(AllocError),
-    }
-}
-
-fn add_files(
-    alloc: Global,
-    lengths: &[u64],
-    files: &mut Vec<(FilePath, u64)>,
-) -> Result<(), AllocError> {
-    for (index, length) in lengths.iter().enumerate() {
-        files.push((path_at(alloc, index)?, *length))?;
-    }
-    Ok(())
-}
-
-/// Files with these lengths, under such paths. That they make no list is told as want of memory.
+/// Files with these lengths, of which no table has more. That they make no list is told as want of memory.
 fn list_of(alloc: Global, lengths: &[u64]) -> Result<FileList, AllocError> {
-    let mut files = Vec::new(alloc);
-    add_files(alloc, lengths, &mut files)?;
-    FileList::build(alloc, files).ok().ok_or(AllocError)
+    match lengths {
+        [a] => shared::list_of(alloc, &[("000", *a)]),
+        [a, b] => shared::list_of(alloc, &[("000", *a), ("001", *b)]),
+        [a, b, c] => shared::list_of(alloc, &[("000", *a), ("001", *b), ("002", *c)]),
+        _ => Err(AllocError),
+    }
 }
 
 /// A plan of files with these lengths, whose piece length and span are tested first.
@@ -67,7 +49,7 @@ pub(crate) fn plan_of<R: AllocGlobal + Abort>(
     Plan::new(rt.alloc(), &list, kind, piece_length, span)
 }
 
-pub(crate) fn add_contents(
+fn add_contents(
     alloc: Global,
     lengths: &[u64],
     files: &mut Vec<Option<Vec<u8>>>,

@@ -1,4 +1,4 @@
-//! How many workers read at once.
+//! How many workers read at once. That no more do than were asked for, tests/ways.py sees.
 ghost use Rattle.tor_source.specs.Answers.{any_answers};
 
 use crate::engine::shared::{allowed, comes_to, is_fault, is_told, plan_of};
@@ -10,83 +10,6 @@ use tor_engine::{How, hash_pieces};
 use tor_plan::Plan;
 use tor_source::Source;
 use tor_tree::Kind;
-
-/// A file of zeros, which counts the reads that come while as many others as there may be are not yet done.
-#[derive(Drop)]
-struct Crowded {
-    length: u64,
-    workers: u64,
-    open: AtomicU64,
-    wrong: AtomicU64,
-}
-
-impl Source for Crowded {
-    type Fault = u64;
-
-    ghost is_steady = { λ _ _. ⊥ };
-
-    ghost answers = { λ _. any_answers };
-
-    fn length(&self, _file: u64) -> Result<Option<u64>, u64> {
-        Ok(Some(self.length))
-    }
-
-    fn read_at(&self, _file: u64, _start: u64, buffer: &mut [u8]) -> Result<usize, u64> {
-        if self.open.fetch_add(1, SeqCst) >= self.workers {
-            self.wrong.fetch_add(1, SeqCst);
-        }
-        // No count comes to so many.
-        comes_to(&self.open, u64::MAX, 1000);
-        self.open.fetch_sub(1, SeqCst);
-        Ok(buffer.len())
-    }
-}
-
-/// How the units are shared, and by how many workers.
-const SHARED: &[(How, u64)] = &[
-    (How::One, 1),
-    (How::Halves(1), 1),
-    (How::Halves(2), 2),
-    (How::Halves(3), 3),
-    (How::Halves(4), 4),
-    (How::Halves(5), 5),
-    (How::Board(1), 1),
-    (How::Board(2), 2),
-    (How::Board(5), 5),
-];
-
-/// Whether no more than so many read a file of 16 units at once.
-fn is_never_crowded<R: AllocGlobal + Abort + Threads + Sync>(
-    rt: &R,
-    plan: &Plan,
-    how: How,
-    workers: u64,
-) -> bool {
-    let source = Crowded {
-        length: 16 * 16384,
-        workers,
-        open: AtomicU64::new(0),
-        wrong: AtomicU64::new(0),
-    };
-    is_fault(rt, &source, plan, how, "none") && source.wrong.load(SeqCst) == 0
-}
-
-/// Whether it is so in each row.
-fn is_each_never_crowded<R: AllocGlobal + Abort + Threads + Sync>(rt: &R, plan: &Plan) -> bool {
-    for (how, workers) in SHARED {
-        if !is_never_crowded(rt, plan, *how, *workers) {
-            return false;
-        }
-    }
-    true
-}
-
-fn is_none_crowded<R: AllocGlobal + Abort + Threads + Sync>(rt: &R) -> bool {
-    match plan_of(rt, &[16 * 16384], Kind::V2, 16384, 1) {
-        Ok(plan) => plan.units().len() == 16 && is_each_never_crowded(rt, &plan),
-        Err(_) => false,
-    }
-}
 
 /// Too few others read.
 #[derive(Debug, Drop)]
@@ -235,6 +158,4 @@ const PIECES_OF_FOUR: Gathering = Gathering {
 fn workers_meet(rt: HostRuntime) {
     assert!(rt; meet(&rt, &OF_FOUR));
     assert!(rt; meet(&rt, &PIECES_OF_FOUR));
-    // No more workers read than were asked for.
-    assert!(rt; is_none_crowded(&rt));
 }

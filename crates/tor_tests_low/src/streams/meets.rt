@@ -1,14 +1,17 @@
-//! How many workers hash at once.
+//! How many workers hash at once; and the sums of no reader, of which no word of the program tells. Other sums are
+//! those that `tor make --how streams` writes (tests/ways.py).
+ghost use Rattle.std.specs.Prelude.{◌≤◌};
+ghost use Rattle.tor_streams.specs.Streams.{IsStreamCut};
 
 use crate::shared::content;
-use crate::streams::shared::{Parts, Way, allowed, readers_of};
-use std::io;
+use std::alloc::{AllocError, Global};
+use std::io::{self, Cursor};
 use std::process::Abort;
 use std::sync::Wait;
 use std::sync::atomic::AtomicU64;
 use std::sync::atomic::Ordering::SeqCst;
 use std::thread::{Threads, yield_now};
-use tor_engine::{EngineError, Gate, Sums, hash_streams_with};
+use tor_engine::{EngineError, Gate, Sums, hash_streams, hash_streams_with};
 use tor_tree::Kind;
 
 /// Holds whoever enters until two have entered, and counts if no other one came.
@@ -36,11 +39,39 @@ impl Gate for Meeting {
     }
 }
 
+/// How the bytes of readers are hashed.
+#[derive(Clone, Copy)]
+struct Way {
+    kind: Kind,
+    piece_length: u64,
+    span: u32,
+    workers: u32,
+}
+
+/// A way, whose numbers are tested.
+fn allowed<R: Abort>(rt: &R, way: Way) -> Way
+    ensures { IsStreamCut result.kind result.piece_length result.span × (1 ≤ result.workers)
+        × (result.workers ≤ 64) }
+{
+    let Way {
+        piece_length,
+        span,
+        workers,
+        ..
+    } = way;
+    assert!(rt; piece_length.is_power_of_two());
+    assert!(rt; piece_length >= 16384 && piece_length <= 1 << 30);
+    assert!(rt; span.is_power_of_two() && span >= 1 && span <= 1024);
+    assert!(rt; span as u64 * piece_length <= 1 << 30);
+    assert!(rt; workers >= 1 && workers <= 64);
+    way
+}
+
 /// Readers hashed past a gate, in a way whose numbers are tested first.
 fn hash_past<R: AllocGlobal + Abort + Threads + Wait + Sync>(
     rt: &R,
     gate: &Meeting,
-    readers: Vec<Parts>,
+    readers: Vec<Cursor<Vec<u8>>>,
     way: Way,
 ) -> Result<Sums, EngineError<io::Error>> {
     let Way {
@@ -48,7 +79,6 @@ fn hash_past<R: AllocGlobal + Abort + Threads + Wait + Sync>(
         piece_length,
         span,
         workers,
-        tail,
     } = allowed(rt, way);
     hash_streams_with(
         gate,
@@ -59,14 +89,14 @@ fn hash_past<R: AllocGlobal + Abort + Threads + Wait + Sync>(
         piece_length,
         span,
         workers,
-        tail,
+        false,
     )
 }
 
 /// Whether so many of those that entered met nobody, and four entered, with the units 0 to 3.
 fn are_missed<R: AllocGlobal + Abort + Threads + Wait + Sync>(
     rt: &R,
-    readers: Vec<Parts>,
+    readers: Vec<Cursor<Vec<u8>>>,
     workers: u32,
     turns: u64,
     missed: u64,
@@ -82,7 +112,6 @@ fn are_missed<R: AllocGlobal + Abort + Threads + Wait + Sync>(
         piece_length: 16384,
         span: 1,
         workers,
-        tail: false,
     };
     hash_past(rt, &gate, readers, way).is_ok()
         && gate.missed.load(SeqCst) == missed
@@ -90,30 +119,79 @@ fn are_missed<R: AllocGlobal + Abort + Threads + Wait + Sync>(
         && gate.units.load(SeqCst) == 6
 }
 
-/// Whether they did over the four units of these bytes.
+/// A reader of four blocks.
+fn reader(alloc: Global) -> Result<Vec<Cursor<Vec<u8>>>, AllocError> {
+    let bytes = content(alloc, 65536)?;
+    Ok(vec![in alloc; Cursor::new(bytes)]?)
+}
+
+/// Whether they did over the four units of a reader.
 fn meet<R: AllocGlobal + Abort + Threads + Wait + Sync>(
     rt: &R,
-    bytes: &[u8],
     workers: u32,
     turns: u64,
     missed: u64,
 ) -> bool {
-    match readers_of(rt.alloc(), &[bytes], 65536) {
+    match reader(rt.alloc()) {
         Ok(readers) => are_missed(rt, readers, workers, turns, missed),
         Err(_) => false,
     }
 }
 
-/// Whether two workers meet, and one meets nobody: its first unit waits in vain; once the second is begun, two have
-/// been.
-fn meet_where_there_are_two<R: AllocGlobal + Abort + Threads + Wait + Sync>(rt: &R) -> bool {
-    match content(rt.alloc(), 65536) {
-        Ok(bytes) => meet(rt, &bytes, 2, 10_000_000, 0) && meet(rt, &bytes, 1, 1000, 1),
+fn are_none(sums: &Sums) -> bool {
+    sums.pieces.is_empty()
+        && sums.lengths.is_empty()
+        && sums.roots.is_empty()
+        && sums.layers.is_empty()
+}
+
+/// Whether no reader has no sum.
+fn has_no_sum<R: AllocGlobal + Abort + Threads + Wait + Sync>(
+    rt: &R,
+    workers: u32,
+    tail: bool,
+) -> bool {
+    let way = Way {
+        kind: Kind::Hybrid,
+        piece_length: 16384,
+        span: 1,
+        workers,
+    };
+    let Way {
+        kind,
+        piece_length,
+        span,
+        workers,
+    } = allowed(rt, way);
+    let readers: Vec<Cursor<Vec<u8>>> = Vec::new(rt.alloc());
+    match hash_streams(
+        rt,
+        rt.alloc(),
+        readers,
+        kind,
+        piece_length,
+        span,
+        workers,
+        tail,
+    ) {
+        Ok(sums) => are_none(&sums),
         Err(_) => false,
     }
 }
 
+const WORKERS: &[u32] = &[1, 2, 64];
+
 #[test]
 fn streams_meet(rt: HostRuntime) {
-    assert!(rt; meet_where_there_are_two(&rt));
+    assert!(rt; meet(&rt, 2, 10_000_000, 0));
+    // One meets nobody: its first unit waits in vain; once the second is begun, two have been.
+    assert!(rt; meet(&rt, 1, 1000, 1));
+}
+
+#[test]
+fn no_reader_has_no_sum(rt: HostRuntime) {
+    for workers in WORKERS {
+        assert!(rt; has_no_sum(&rt, *workers, false));
+        assert!(rt; has_no_sum(&rt, *workers, true));
+    }
 }

@@ -1,24 +1,148 @@
-//! Lists of files and of paths: their order, and why there is none.
-use crate::shared::{Files, files_of, is, path};
+//! Lists of files and of paths as no word of the program hands them in: with letters, and in any order. Other lists,
+//! and why there is none, are those that `tor make` tells (tests/paths.py).
+use crate::shared::{self, Files, is, path, paths_of};
 use std::alloc::{AllocError, Global};
 use tor_merkle::MAX_LENGTH;
-use tor_tree::{FileList, FilePath, ListError, PathList};
+use tor_tree::{Attr, FileList, FilePath, ListError, PathList};
 
-fn add_paths(alloc: Global, texts: &[&str], paths: &mut Vec<FilePath>) -> Result<(), AllocError> {
-    for text in texts {
-        paths.push(path(alloc, text)?)?;
+const NONE: Attr = Attr::NONE;
+
+const EXEC: Attr = Attr {
+    exec: true,
+    hidden: false,
+};
+
+const HIDDEN: Attr = Attr {
+    exec: false,
+    hidden: true,
+};
+
+const BOTH: Attr = Attr {
+    exec: true,
+    hidden: true,
+};
+
+// The path of a file, its length and its letters.
+type Row = (&'static str, u64, Attr);
+
+fn add_rows(
+    alloc: Global,
+    rows: &[Row],
+    files: &mut Vec<(FilePath, u64, Attr)>,
+) -> Result<(), AllocError> {
+    for (text, length, attr) in rows {
+        files.push((path(alloc, text)?, *length, *attr))?;
     }
     Ok(())
 }
 
-fn paths_of(alloc: Global, texts: &[&str]) -> Result<Vec<FilePath>, AllocError> {
-    let mut paths = Vec::new(alloc);
-    add_paths(alloc, texts, &mut paths)?;
-    Ok(paths)
+fn list_of(alloc: Global, rows: &[Row]) -> Result<FileList, ListError> {
+    let mut files = Vec::new(alloc);
+    add_rows(alloc, rows, &mut files)?;
+    FileList::build_with(alloc, files)
 }
 
-fn list_of_files(alloc: Global, files: &[(&str, u64)]) -> Result<FileList, ListError> {
-    FileList::build(alloc, files_of(alloc, files)?)
+// Whether a file of a list is that of a row, letters and all.
+fn is_row(alloc: Global, list: &FileList, index: usize, row: &Row) -> bool {
+    if index >= list.files().len() {
+        return false;
+    }
+    let (file, length) = &list.files()[index];
+    match path(alloc, row.0) {
+        Ok(path) => *file == path && *length == row.1 && list.attr(index) == row.2,
+        Err(_) => false,
+    }
+}
+
+fn are_rows(alloc: Global, list: &FileList, rows: &[Row]) -> bool {
+    for (index, row) in rows.iter().enumerate() {
+        if !is_row(alloc, list, index, row) {
+            return false;
+        }
+    }
+    list.files().len() == rows.len()
+}
+
+// Files in no order, some of them under long paths, and in the order of their paths.
+const SORTED: &[(&[Row], &[Row])] = &[
+    (
+        &[("b", 0, EXEC), ("a-b", 0, NONE), ("a/c", 0, BOTH)],
+        &[("a/c", 0, BOTH), ("a-b", 0, NONE), ("b", 0, EXEC)],
+    ),
+    (
+        &[
+            ("z", 9, HIDDEN),
+            ("m/n/o/p/q/r/s/t/u/v/w/x/y/z", MAX_LENGTH, EXEC),
+            ("a", 0, NONE),
+            ("m/n/o/p/q/r/s/t/u/v/w/x/y/a", 3, BOTH),
+            ("a b/c", 16384, BOTH),
+            (LONG_PATH, 7, EXEC),
+            ("b", 1, EXEC),
+            ("y", 5, NONE),
+            ("c", 1, HIDDEN),
+        ],
+        &[
+            ("a", 0, NONE),
+            ("a b/c", 16384, BOTH),
+            ("b", 1, EXEC),
+            ("c", 1, HIDDEN),
+            (LONG_PATH, 7, EXEC),
+            ("m/n/o/p/q/r/s/t/u/v/w/x/y/a", 3, BOTH),
+            ("m/n/o/p/q/r/s/t/u/v/w/x/y/z", MAX_LENGTH, EXEC),
+            ("y", 5, NONE),
+            ("z", 9, HIDDEN),
+        ],
+    ),
+];
+
+const LONG_PATH: &str = "m/0123456789012345678901234567890123456789012345678901234567890123456789";
+
+fn is_sorted(alloc: Global, rows: &[Row], sorted: &[Row]) -> bool {
+    match list_of(alloc, rows) {
+        Ok(list) => are_rows(alloc, &list, sorted),
+        Err(_) => false,
+    }
+}
+
+// Files with letters, and why they are no list.
+const REFUSED: &[(&[Row], &str)] = &[
+    (&[], "L4 NoFiles"),
+    (&[("a", 0, EXEC), ("a", 0, HIDDEN)], "L1 Duplicate"),
+    (
+        &[
+            ("e", 1, EXEC),
+            ("d", MAX_LENGTH + 1, EXEC),
+            ("b/a", 1, EXEC),
+            ("b", 1, BOTH),
+            ("e", 1, EXEC),
+        ],
+        "L1 Duplicate",
+    ),
+    (
+        &[
+            ("d", MAX_LENGTH + 1, EXEC),
+            ("b/a", 1, EXEC),
+            ("c", 1, EXEC),
+            ("b", 1, BOTH),
+        ],
+        "L2 FileAndFolder",
+    ),
+    (
+        &[
+            ("d", 1, EXEC),
+            ("c", 1, EXEC),
+            ("b", MAX_LENGTH + 1, BOTH),
+            ("a", 1, EXEC),
+        ],
+        "L3 TooLarge",
+    ),
+];
+
+fn is_refused(alloc: Global, rows: &[Row], wanted: &str) -> bool {
+    match list_of(alloc, rows) {
+        Ok(_) => false,
+        Err(fault) => is(format!(in alloc; "{fault}"), wanted),
+    }
 }
 
 // Two orders of the same files.
@@ -27,44 +151,19 @@ const ORDERS: &[Files] = &[
     &[("b", 0), ("a/c", 2), ("a-b", 1)],
 ];
 
-fn is_listed(alloc: Global, files: &[(&str, u64)], wanted: &[(FilePath, u64)]) -> bool {
-    match list_of_files(alloc, files) {
-        Ok(list) => list.files() == wanted,
+const IN_ORDER: &[Row] = &[("a/c", 2, NONE), ("a-b", 1, NONE), ("b", 0, NONE)];
+
+fn is_in_order(alloc: Global, files: Files) -> bool {
+    match shared::list_of(alloc, files) {
+        Ok(list) => are_rows(alloc, &list, IN_ORDER),
         Err(_) => false,
     }
 }
 
-fn are_listed(alloc: Global, wanted: &[(FilePath, u64)]) -> bool {
-    for files in ORDERS {
-        if !is_listed(alloc, files, wanted) {
-            return false;
-        }
-    }
-    true
+// A list of the paths `b`, `a-b` and `a/c`.
+fn three(alloc: Global) -> Result<PathList, ListError> {
+    PathList::build(alloc, paths_of(alloc, &["b", "a-b", "a/c"])?)
 }
-
-// Whether each of the orders is listed in the order of its paths.
-fn are_listed_in_order(alloc: Global) -> bool {
-    match files_of(alloc, &[("a/c", 2), ("a-b", 1), ("b", 0)]) {
-        Ok(wanted) => are_listed(alloc, &wanted),
-        Err(_) => false,
-    }
-}
-
-const LONG: u64 = MAX_LENGTH + 1;
-
-fn is_no_list(alloc: Global, files: &[(&str, u64)], wanted: &str) -> bool {
-    match list_of_files(alloc, files) {
-        Ok(_) => false,
-        Err(fault) => is(format!(in alloc; "{fault}"), wanted),
-    }
-}
-
-fn list_of(alloc: Global, texts: &[&str]) -> Result<PathList, ListError> {
-    PathList::build(alloc, paths_of(alloc, texts)?)
-}
-
-const THREE: &[&str] = &["b", "a-b", "a/c"];
 
 // Whether an entry is this path, handed in at this index.
 fn is_entry(alloc: Global, entry: &(FilePath, usize), text: &str, index: usize) -> bool {
@@ -85,120 +184,39 @@ fn are_entries(alloc: Global, list: &PathList) -> bool {
     }
 }
 
-fn are_three_entries(alloc: Global) -> bool {
-    match list_of(alloc, THREE) {
-        Ok(list) => are_entries(alloc, &list),
-        Err(_) => false,
-    }
-}
-
-// Whether a list of paths takes these lengths: the files, and where each was handed in.
-fn takes_lengths(
-    alloc: Global,
-    list: PathList,
-    lengths: &[u64],
-    wanted: &[(FilePath, u64)],
-) -> bool {
-    if lengths.len() != list.entries().len() {
+// Whether the list of three takes these lengths: the files, and where each was handed in.
+fn takes_lengths(alloc: Global, list: PathList) -> bool {
+    if list.entries().len() != 3 {
         return false;
     }
-    match list.with_lengths(alloc, lengths) {
+    match list.with_lengths(alloc, &[7, 0, 5]) {
         Ok((files, indices)) => {
-            indices.as_slice() == [2, 1, 0].as_slice() && files.files() == wanted
+            indices.as_slice() == [2, 1, 0].as_slice() && are_rows(alloc, &files, LONGER)
         }
         Err(_) => false,
     }
 }
 
-fn take_lengths(alloc: Global, lengths: &[u64], wanted: &[(FilePath, u64)]) -> bool {
-    match list_of(alloc, THREE) {
-        Ok(list) => takes_lengths(alloc, list, lengths, wanted),
+const LONGER: &[Row] = &[("a/c", 5, NONE), ("a-b", 0, NONE), ("b", 7, NONE)];
+
+// Whether paths keep where they were handed in.
+fn are_paths_kept(alloc: Global) -> bool {
+    match three(alloc) {
+        Ok(list) => are_entries(alloc, &list) && takes_lengths(alloc, list),
         Err(_) => false,
-    }
-}
-
-fn are_lengths_taken(alloc: Global) -> bool {
-    match files_of(alloc, &[("a/c", 5), ("a-b", 0), ("b", 7)]) {
-        Ok(wanted) => take_lengths(alloc, &[7, 0, 5], &wanted),
-        Err(_) => false,
-    }
-}
-
-fn are_no_paths(alloc: Global, texts: &[&str], wanted: &str) -> bool {
-    match list_of(alloc, texts) {
-        Ok(_) => false,
-        Err(fault) => is(format!(in alloc; "{fault}"), wanted),
-    }
-}
-
-// Whether a list of paths refuses these lengths, and this is why.
-fn refuses_lengths(alloc: Global, list: PathList, lengths: &[u64], wanted: &str) -> bool {
-    if lengths.len() != list.entries().len() {
-        return false;
-    }
-    match list.with_lengths(alloc, lengths) {
-        Ok(_) => false,
-        Err(fault) => is(format!(in alloc; "{fault}"), wanted),
-    }
-}
-
-fn refuse_length(alloc: Global, length: u64, wanted: &str) -> bool {
-    match list_of(alloc, &["a"]) {
-        Ok(list) => refuses_lengths(alloc, list, &[length], wanted),
-        Err(_) => false,
-    }
-}
-
-// What is to hold.
-enum Case {
-    // Files are listed in the order of their paths.
-    Listed,
-    // Files, and why they are no list.
-    NoList(Files, &'static str),
-    // Paths keep where they were handed in.
-    Entries,
-    // They take the lengths of their files.
-    Lengths,
-    // A length, and why it is refused.
-    Refused(u64, &'static str),
-    // Paths, and why they are no list.
-    NoPaths(&'static [&'static str], &'static str),
-}
-
-const CASES: &[Case] = &[
-    Case::Listed,
-    Case::NoList(&[], "L4 NoFiles"),
-    Case::NoList(&[("a", 1), ("b", 1), ("a", 2)], "L1 Duplicate"),
-    Case::NoList(&[("a/b", 1), ("a", 1), ("a-b", 1)], "L2 FileAndFolder"),
-    Case::NoList(&[("a", LONG)], "L3 TooLarge"),
-    Case::NoList(
-        &[("a", LONG), ("a/b", 1), ("c", 1), ("c", 1)],
-        "L1 Duplicate",
-    ),
-    Case::NoList(&[("a/b/c", LONG), ("a", 1)], "L2 FileAndFolder"),
-    Case::Entries,
-    Case::Lengths,
-    Case::Refused(LONG, "L3 TooLarge"),
-    Case::NoPaths(&[], "L4 NoFiles"),
-    Case::NoPaths(&["a", "b", "a"], "L1 Duplicate"),
-    Case::NoPaths(&["a/b", "a", "a-b"], "L2 FileAndFolder"),
-    Case::NoPaths(&["a/b", "a", "c", "c"], "L1 Duplicate"),
-];
-
-fn holds(alloc: Global, case: &Case) -> bool {
-    match case {
-        Case::Listed => are_listed_in_order(alloc),
-        Case::NoList(files, wanted) => is_no_list(alloc, files, wanted),
-        Case::Entries => are_three_entries(alloc),
-        Case::Lengths => are_lengths_taken(alloc),
-        Case::Refused(length, wanted) => refuse_length(alloc, *length, wanted),
-        Case::NoPaths(texts, wanted) => are_no_paths(alloc, texts, wanted),
     }
 }
 
 #[test]
 fn lists_are_in_order_or_their_first_fault_is_told(rt: HostRuntime) {
-    for case in CASES {
-        assert!(rt; holds(rt.alloc(), case));
+    for (rows, sorted) in SORTED {
+        assert!(rt; is_sorted(rt.alloc(), rows, sorted));
     }
+    for (rows, wanted) in REFUSED {
+        assert!(rt; is_refused(rt.alloc(), rows, wanted));
+    }
+    for files in ORDERS {
+        assert!(rt; is_in_order(rt.alloc(), files));
+    }
+    assert!(rt; are_paths_kept(rt.alloc()));
 }

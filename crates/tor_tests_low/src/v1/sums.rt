@@ -1,9 +1,8 @@
 //! The SHA-1 of the pieces of a content that is fed in parts. Hashes in hexadecimal were computed by another program
-//! (Python's hashlib).
+//! (Python's hashlib). Those of whole contents are what `tor make` writes and `tor recheck` finds (tests/hashing.py).
 ghost use Rattle.std.specs.Prelude.{◌<◌};
 
 use crate::shared::content;
-use sha1::Sha1;
 use std::alloc::{AllocError, Global};
 use tor_v1::PieceSums;
 
@@ -148,42 +147,17 @@ fn agree(alloc: Global, piece_length: u64, lengths: &[usize]) -> bool {
     true
 }
 
-// Whether the joined sums of bytes that are fed at one time have this hash.
-fn has_hash_of_sums(alloc: Global, piece_length: u64, bytes: &[u8], hash: &[u8; 20]) -> bool {
-    match sums_of(alloc, piece_length, bytes, 1 << 20) {
-        Ok(sums) => Sha1::digest(&sums) == *hash,
-        Err(_) => false,
-    }
-}
-
-// Whether those of a content have.
-fn has_hash(alloc: Global, piece_length: u64, length: usize, hash: &[u8; 20]) -> bool {
-    match content(alloc, length) {
-        Ok(bytes) => has_hash_of_sums(alloc, piece_length, &bytes, hash),
-        Err(_) => false,
-    }
-}
-
-// What is to hold.
-enum Case {
-    // The length of a piece, the parts of a content, and the joined hashes.
-    Parts(u64, &'static [Part], &'static [u8]),
-    // The length of a piece, and the lengths of contents. Eight whole pieces are hashed at once.
-    Runs(u64, &'static [usize]),
-    // The length of a piece, the length of a content, and the hash of its joined sums.
-    Summed(u64, usize, [u8; 20]),
-}
-
-const CASES: &[Case] = &[
-    Case::Parts(16384, &[], b""),
-    Case::Parts(16384, &[Part::Bytes(b""), Part::Zeros(0)], b""),
-    Case::Parts(16384, &[Part::Bytes(b"abc")], ABC),
-    Case::Parts(
+// The length of a piece, the parts of a content, and the joined hashes.
+const PARTS: &[(u64, &[Part], &[u8])] = &[
+    (16384, &[], b""),
+    (16384, &[Part::Bytes(b""), Part::Zeros(0)], b""),
+    (16384, &[Part::Bytes(b"abc")], ABC),
+    (
         16384,
         &[Part::Bytes(b"ab"), Part::Zeros(16382), Part::Bytes(b"c")],
         JOINED,
     ),
-    Case::Parts(
+    (
         16384,
         &[
             Part::Bytes(b"a"),
@@ -195,7 +169,7 @@ const CASES: &[Case] = &[
         ],
         JOINED,
     ),
-    Case::Parts(
+    (
         16384,
         &[
             Part::Bytes(b"ab\0\0\0"),
@@ -204,44 +178,24 @@ const CASES: &[Case] = &[
         ],
         JOINED,
     ),
-    Case::Parts(3, &[Part::Bytes(b"abcdefg")], SEVEN),
-    Case::Parts(
+    (3, &[Part::Bytes(b"abcdefg")], SEVEN),
+    (
         3,
         &[Part::Bytes(b"ab"), Part::Bytes(b"cde"), Part::Bytes(b"fg")],
         SEVEN,
     ),
-    Case::Parts(30000, &[Part::Zeros(100_000)], ZEROS),
-    Case::Runs(64, OF_64),
-    Case::Runs(16_384, OF_16384),
-    Case::Runs(100, OF_100),
-    Case::Summed(
-        64,
-        1_089,
-        *b"\x4c\xed\xf3\x17\x04\xda\xf5\xef\x33\xf4\x7b\x02\xbf\x6d\x4d\x9a\x8d\x22\x50\xd6",
-    ),
-    Case::Summed(
-        16_384,
-        278_529,
-        *b"\xa2\x0c\x97\xc3\x32\x2e\x96\x58\xeb\xc2\xd8\xca\xaf\x14\x4a\xce\xcb\x23\xb7\xfb",
-    ),
-    Case::Summed(
-        100,
-        1_701,
-        *b"\xa9\xe4\x67\xae\x3a\x4d\x07\x93\x09\xfa\xb7\x9c\x79\xf4\xad\xeb\x37\xe0\x0b\x5f",
-    ),
+    (30000, &[Part::Zeros(100_000)], ZEROS),
 ];
 
-fn holds(alloc: Global, case: &Case) -> bool {
-    match case {
-        Case::Parts(piece_length, parts, wanted) => has_sums(alloc, *piece_length, parts, wanted),
-        Case::Runs(piece_length, lengths) => agree(alloc, *piece_length, lengths),
-        Case::Summed(piece_length, length, hash) => has_hash(alloc, *piece_length, *length, hash),
-    }
-}
+// The length of a piece, and the lengths of contents. Eight whole pieces are hashed at once.
+const RUNS: &[(u64, &[usize])] = &[(64, OF_64), (16_384, OF_16384), (100, OF_100)];
 
 #[test]
 fn sums_pieces_in_parts_and_in_runs(rt: HostRuntime) {
-    for case in CASES {
-        assert!(rt; holds(rt.alloc(), case));
+    for (piece_length, parts, wanted) in PARTS {
+        assert!(rt; has_sums(rt.alloc(), *piece_length, parts, wanted));
+    }
+    for (piece_length, lengths) in RUNS {
+        assert!(rt; agree(rt.alloc(), *piece_length, lengths));
     }
 }

@@ -1,0 +1,35 @@
+//! Plans that are read and written again, spelled by hand (BEP 3, "bencoding"). What is no plan, and what is joined, is
+//! tried on the built program (`tests/joining.py`).
+
+use std::alloc::Global;
+use tor_meta::{read_plan, write_plan};
+
+/// The plan of the hybrid of several files.
+const PLAN: &[u8] = b"d5:filesl1:xi40000e1:a0:i0e1:b0:i16385e1:c2:hxi3e1:de4:kind6:hybrid4:name1:f\
+12:piece lengthi16384e4:spani1ee";
+
+/// The same in units of two pieces.
+const OTHER: &[u8] = b"d5:filesl1:xi40000e1:a0:i0e1:b0:i16385e1:c2:hxi3e1:de4:kind6:hybrid4:name1:f\
+12:piece lengthi16384e4:spani2ee";
+
+/// A tracker, and all flags.
+const FLAGS: &[u8] =
+    b"d8:announce3:t:/5:filesl0:i0e3:f/ge4:kind2:v14:name1:f12:piece lengthi16384e7:privatei1e\
+4:spani1024e4:taili1ee";
+
+fn is_read(alloc: Global, bytes: &[u8]) -> bool {
+    match read_plan(alloc, bytes) {
+        Ok(listing) => match write_plan(alloc, &listing) {
+            Ok(again) => again.as_slice() == bytes,
+            Err(_) => false,
+        },
+        Err(_) => false,
+    }
+}
+
+#[test]
+fn reads_plans(rt: HostRuntime) {
+    assert!(rt; is_read(rt.alloc(), PLAN));
+    assert!(rt; is_read(rt.alloc(), OTHER));
+    assert!(rt; is_read(rt.alloc(), FLAGS));
+}

@@ -1,0 +1,117 @@
+//! Rows of lots that are cut or too long, and a file that ends within a lot: of the files of three pieces, of none, of
+//! two and of one in a hybrid, in units of a piece. What is joined of lots is tried on the built program
+//! (`tests/joining.py`).
+
+use crate::meta::given::{files, source};
+use std::alloc::{AllocError, Global};
+use std::process::Abort;
+use std::thread::Threads;
+use tor_engine::{EngineError, How, PieceRow};
+use tor_parts::{has_all_pieces, hash_dealt};
+use tor_plan::Plan;
+use tor_tree::{FileList, Kind};
+
+const SEVERAL: &str = "a=*40000 b= c=*16385 d=abc";
+
+/// The files of `SEVERAL`, of which the first is a byte shorter.
+const SHORTER: &str = "a=*39999 b= c=*16385 d=abc";
+
+fn list_of(alloc: Global, given: &str) -> Result<FileList, AllocError> {
+    let mut all = Vec::new(alloc);
+    for (path, content) in files(alloc, given)? {
+        all.push((path, content.len() as u64))?;
+    }
+    FileList::build(alloc, all).ok().ok_or(AllocError)
+}
+
+/// A plan of pieces of this length, so many a unit, both of which are tested first.
+fn plan_of<R: AllocGlobal + Abort>(
+    rt: &R,
+    piece_length: u64,
+    span: u32,
+) -> Result<Plan, AllocError> {
+    assert!(rt; piece_length.is_power_of_two());
+    assert!(rt; piece_length >= 16384 && piece_length <= 1 << 30);
+    assert!(rt; span.is_power_of_two() && span >= 1 && span <= 1024);
+    let list = list_of(rt.alloc(), SEVERAL)?;
+    Plan::new(rt.alloc(), &list, Kind::Hybrid, piece_length, span)
+}
+
+fn row_of(alloc: Global, hashes: usize, pieces: usize) -> Result<PieceRow, AllocError> {
+    Ok(PieceRow {
+        hashes: vec![in alloc; [0; 32]; hashes]?,
+        pieces: vec![in alloc; 0; pieces.saturating_mul(20)]?,
+    })
+}
+
+fn add_rows(
+    alloc: Global,
+    counts: &[(usize, usize)],
+    rows: &mut Vec<PieceRow>,
+) -> Result<(), AllocError> {
+    for (hashes, pieces) in counts {
+        rows.push(row_of(alloc, *hashes, *pieces)?)?;
+    }
+    Ok(())
+}
+
+/// How many Merkle hashes and how many SHA-1s the row of each lot has, and whether these are all.
+type Counted = (&'static [(usize, usize)], bool);
+
+const COUNTED: &[Counted] = &[
+    (&[(2, 2), (2, 2), (2, 2)], true),
+    // A hash less, and one more.
+    (&[(1, 2), (2, 2), (2, 2)], false),
+    (&[(3, 2), (2, 2), (2, 2)], false),
+    // It goes by the counts of all together.
+    (&[(1, 3), (3, 2), (2, 1)], true),
+    (&[(2, 1), (2, 2), (2, 2)], false),
+];
+
+fn is_counted(alloc: Global, plan: &Plan, row: &Counted) -> bool {
+    let mut rows = Vec::new(alloc);
+    add_rows(alloc, row.0, &mut rows).is_ok() && has_all_pieces(plan, &rows) == row.1
+}
+
+fn are_counted<R: AllocGlobal + Abort>(rt: &R) -> bool {
+    let Ok(plan) = plan_of(rt, 16384, 1) else {
+        return false;
+    };
+    for row in COUNTED {
+        if !is_counted(rt.alloc(), &plan, row) {
+            return false;
+        }
+    }
+    true
+}
+
+#[test]
+fn tells_rows_that_are_cut_or_too_long(rt: HostRuntime) {
+    assert!(rt; are_counted(&rt));
+}
+
+/// Whether a lot of the longer files is told as changed if they are shorter; else it is hashed.
+fn is_changed<R: AllocGlobal + Abort + Threads + Sync>(
+    rt: &R,
+    lots: u32,
+    lot: u32,
+) -> Option<bool> {
+    let plan = plan_of(rt, 16384, 1).ok()?;
+    let source = source(rt.alloc(), SHORTER).ok()?;
+    if lot >= lots {
+        return None;
+    }
+    match hash_dealt(rt, rt.alloc(), &source, &plan, lots, lot, How::Board(2)) {
+        Ok(_) => Some(false),
+        Err(EngineError::Changed { file: 0 }) => Some(true),
+        Err(_) => None,
+    }
+}
+
+#[test]
+fn tells_a_file_that_ends_within_a_lot(rt: HostRuntime) {
+    assert!(rt; is_changed(&rt, 1, 0) == Some(true));
+    assert!(rt; is_changed(&rt, 3, 0) == Some(false));
+    assert!(rt; is_changed(&rt, 3, 1) == Some(true));
+    assert!(rt; is_changed(&rt, 9, 8) == Some(false));
+}
