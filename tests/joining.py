@@ -1,10 +1,11 @@
 """Plans, parts and what is joined of them, spelled by hand (BEP 3, "bencoding"): the torrent is that of the whole."""
 import hashlib
 
+from contents import torrent_of
 from made import (
     ABC, BLOCK, EMPTY_HYBRID, EMPTY_V1, EMPTY_V2, EQUAL_FILES, FIVE_BLOCKS, LAYER_OF_40000, PAST_A_BLOCK,
     ROOT_OF_40000, TAIL_BEFORE_EMPTY, Row, counted, place_of, sha1, sha256, words_of)
-from reference import decode, encode
+from reference import decode, encode, root_of
 from support import Failure, done, expect, expect_equal, refused, run
 
 # Files of three pieces, of none, of two and of one, with letters.
@@ -229,22 +230,25 @@ def test_first_refusal(program, folder):
         (plan, parts((plan, 3, 2), (plan, 3, 0), (plan, 3, 2)), refused('J5 Twice 2')),
         (plan, parts((plan, 3, 2)), refused('J7 Missing 0-1')),
         (plan, [], refused('J7 Missing 0')),
-        # A part without its last Merkle hash, with one more, and without its last byte.
-        (plan, [plan.part(2, 3), changed(plan.part(0, 3), lambda part: part[b'hashes'][:-32])], refused('J6 Length 1')),
-        (plan, [changed(plan.part(0, 3), lambda part: part[b'hashes'][:-32]), *parts((plan, 3, 1), (plan, 3, 2))],
-         refused('J6 Length 0')),
-        (plan, [changed(plan.part(0, 3), lambda part: part[b'hashes'] + bytes(32)), *parts((plan, 3, 1), (plan, 3, 2))],
-         refused('J6 Length 0')),
         (plan, [plan.part(2, 3), plan.part(0, 3)[:-1]], refused('J2 NoPart 1')),
+        (plan, [plan.part(2, 3), with_other(plan.part(0, 3), b'hashes', lambda sums: sums[:-32])],
+         refused('J6 Length 1')),
     ]
+    # A hash too few, or too many, and a SHA-1.
+    for key, turned in [(b'hashes', lambda sums: sums[:-32]), (b'hashes', lambda sums: sums + bytes(32)),
+                        (b'pieces', lambda sums: sums[:-20]), (b'pieces', lambda sums: sums + bytes(20))]:
+        given = [with_other(plan.part(0, 3), key, turned), *parts((plan, 3, 1), (plan, 3, 2))]
+        rows.append((plan, given, refused('J6 Length 0')))
+    cut = with_other(plan.part(0, 3), b'pieces', lambda sums: sums[:-1])
+    rows.append((plan, [cut, *parts((plan, 3, 1), (plan, 3, 2))], refused('J2 NoPart 0')))
     for by, given, wanted in rows:
         by.joins(given, wanted)
 
 
-def changed(text, hashes_of):
-    """A part with other hashes."""
+def with_other(text, key, turned):
+    """A part with other hashes below a key."""
     part = decode(text)
-    part[b'hashes'] = hashes_of(part)
+    part[key] = turned(part[key])
     return encode(part)
 
 
@@ -256,19 +260,26 @@ def test_parts_of_each_other(program, folder):
         first[key], second[key] = second[key], first[key]
     (folder / 'swapped').mkdir()
     swapped = Plan(program, folder / 'swapped', PLAN, plan.place)
-    for number, part in enumerate((first, second, third)):
-        (swapped.folder / str(number)).write_bytes(encode(part))
-    told = run(program, ['join', str(swapped.file), '0', '1', '2'], folder=swapped.folder)
-    expect_equal('what was joined', (0, b'', False), (told.status, told.err, told.out == SEVERAL_HYBRID))
+    of_a = [LAYER_OF_40000[2], PAST_A_BLOCK[0], LAYER_OF_40000[0]]
+    of_c = [LAYER_OF_40000[1], PAST_A_BLOCK[1]]
+    pieces = sums(PADDED)
+    pieces = pieces[40:80] + pieces[:40] + pieces[80:]
+    wanted = torrent_of('hybrid', [((name.encode(),), data) for name, data in SEVERAL.items()],
+                        [root_of(of_a), None, root_of(of_c), sha256(b'abc')], [of_a, [], of_c, []], pieces,
+                        letters={(b'a',): b'x', (b'd',): b'hx'})
+    swapped.joins([encode(part) for part in (first, second, third)], done(wanted))
 
 
 def test_a_shorter_file(program, folder):
     """A part that has bytes of it is refused, and no other."""
     plan = plan_of(program, folder, 0, HYBRID, LETTERS, 1)
-    whole = plan.part(8, 9)
     with open(folder / 'files 0' / 'a', 'r+b') as file:
         file.truncate(39999)
-    for number, parts in [(0, 1), (0, 3), (1, 3)]:
-        words = ['make', '--plan', str(plan.file), '--part', f'{number}/{parts}', plan.place]
-        expect(program, words, refused('E2 Changed file 0', 3))
-    expect(program, ['make', '--plan', str(plan.file), '--part', '8/9', plan.place], done(whole))
+    end = b'4:plan32:' + DIGEST + b'e'
+    behind_a = (b'd6:hashes64:' + PAST_A_BLOCK[1] + sha256(b'abc') + b'4:parti2e5:partsi3e6:pieces40:'
+                + sha1(PADDED[4 * BLOCK:5 * BLOCK]) + sha1(b'abc') + end)
+    of_d = b'd6:hashes32:' + sha256(b'abc') + b'4:parti8e5:partsi9e6:pieces20:' + sha1(b'abc') + end
+    changed_a = refused('E2 Changed file 0', 3)
+    for part, wanted in [('0/1', changed_a), ('0/3', changed_a), ('1/3', changed_a), ('2/3', done(behind_a)),
+                         ('8/9', done(of_d))]:
+        expect(program, ['make', '--plan', str(plan.file), '--part', part, plan.place], wanted)

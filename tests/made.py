@@ -4,12 +4,13 @@ import hashlib
 from collections import namedtuple
 from itertools import repeat
 
+from contents import torrent_of
 from found import object_of
 from random_cases import lay_out
-from reference import BLOCK, decode
+from reference import BLOCK
 from rows import ABC, FOLDER_HYBRID, FOLDER_V1
 from streams import told_of_parts
-from support import Failure, done, expect, expect_equal, expect_told, refused, run
+from support import done, expect, expect_equal, expect_told, refused
 
 
 def sha256(*parts):
@@ -183,15 +184,16 @@ def test_a_tracker_and_private(program, folder):
 
 def test_a_name_of_padding(program, folder):
     """But in a hybrid of a folder, `.pad` is a name as any other."""
-    rows = [Row('v1', False, 16384, 'f', {'.pad/1': b'x'}, None), Row('v2', False, 16384, 'f', {'.pad/1': b'x'}, None),
-            Row('hybrid', True, 16384, '.pad', {'.pad': b'x'}, None)]
+    file, alone = [((b'.pad', b'1'), b'x')], (
+        b'd4:infod9:file treed4:.padd0:d6:lengthi1e11:pieces root32:' + sha256(b'x') + b'eee6:lengthi1e'
+        b'12:meta versioni2e4:name4:.pad12:piece lengthi16384e6:pieces20:' + sha1(b'x') + HYBRID_END)
+    rows = [Row('v1', False, 16384, 'f', {'.pad/1': b'x'}, torrent_of('v1', file, [], [], sha1(b'x'))),
+            Row('v2', False, 16384, 'f', {'.pad/1': b'x'}, torrent_of('v2', file, [sha256(b'x')], [[]], b'')),
+            Row('hybrid', True, 16384, '.pad', {'.pad': b'x'}, alone)]
     for number, row in enumerate(rows):
         place = place_of(folder, number, row)
         for how, workers in HOWS:
-            told = run(program, words_of(row, place, '--how', how, '--workers', str(workers)))
-            if told.status or told.err or not told.out.startswith(b'd4:infod'):
-                raise Failure(f'{row}\ncame    {told}')
-            expect_equal('its kind', row.kind != 'v1', b'file tree' in decode(told.out)[b'info'])
+            expect(program, words_of(row, place, '--how', how, '--workers', str(workers)), done(row.torrent))
     place = place_of(folder, 'hybrid', Row('hybrid', False, 16384, 'f', {'.pad/1': b'x'}, None))
     expect(program, ['make', '--name', 'f', '--kind', 'hybrid', str(place)], refused('Y1 ReservedPad'))
 
