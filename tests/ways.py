@@ -8,8 +8,8 @@ from contents import (
     torrent_of)
 from faults import READ, traced
 from reference import decode, layer_of, leaves, root_of
-from refuser import Meet, Refuser, built
-from support import Told, done, expect, expect_equal, expect_told, preloadable, refused
+from refuser import ALL_LATER, Meet, Refuser, built
+from support import Failure, Told, done, expect, expect_equal, expect_told, preloadable, refused
 from workers import reads_at_once
 
 # Each way to share the work, by one worker, two and the most; and the number of readers behind a stream.
@@ -130,6 +130,11 @@ def test_streams(program, folder):
     for workers in [1, 2, 64]:
         wanted = done(torrent_of('v1', files_of([b'ab', b'c']), [], [], SUM_OF_ABC))
         expect_short(refuser, words_of('v1', BLOCK, 16, 'streams', workers, folder / 'joined', '--tail'), wanted, 1)
+    # That a read gives a byte is seen by how many there are.
+    words = words_of('v1', BLOCK, 1, 'streams', 1, folder / 'joined')
+    met = refuser.run(words, Meet('r', 1, ALL_LATER, 'tell', short=1)).met
+    of_ab = [one for one in met if one.place == str(folder / 'joined' / '000')]
+    expect_equal('whether two bytes are two reads, and the end', True, len(of_ab) >= 3)
 
 
 def test_trees_of_streams(program, folder):
@@ -203,6 +208,7 @@ def test_parts_of_a_plan(program, folder):
             (place / '000').unlink()
         for how, workers in SHARED:
             out = folder / 'part'
+            out.unlink(missing_ok=True)
             expect(program, ['make', '--plan', str(plan), '--part', part, '--how', how, '--workers', str(workers),
                              '--out', str(out), str(place)], done())
             lot = decode(out.read_bytes())
@@ -236,6 +242,8 @@ def test_what_reads_ask_for(program, folder):
                  if asked == 0 or asked > left or asked < LEAST_READ <= left]
         expect_equal(f'{words[3:]}: status, wrong reads, and the largest', (0, [], most),
                      (told.status, wrong, max(asked for _, asked in reads)))
+        if short and len(reads) < length // short:
+            raise Failure(f'{words[3:]}: {len(reads)} reads of at most {short} bytes gave {length}')
 
 
 def test_a_length_that_is_asked_again(program, folder):
@@ -255,6 +263,32 @@ def test_a_length_that_is_asked_again(program, folder):
     lay_out_file()
     *_, last = refuser.each(words, Meet('s'))
     expect_told(words, refused('E1 Read file 0 at length', 3), Told(*last[:3]))
+
+
+def test_a_read_that_is_refused(program, folder):
+    """The one behind a read that gave few bytes, of a file that is hashed, and of one that is rechecked."""
+    refuser, place, torrent = Refuser(program, folder), folder / 'a', folder / 'torrent'
+    place.write_bytes(bytes(65_536))
+    make = ['make', '--name', 'a', '--piece-length', '65536', '--out', str(torrent), str(place)]
+    expect(program, make, done())
+    for words, code in [(make, 'E1'), (['recheck', str(torrent), str(place)], 'C1')]:
+        met = refuser.run(words, Meet('r', 1, ALL_LATER, 'tell', short=49_157)).met
+        _, second = (number for number, one in enumerate(met, 1) if one.place == str(place))
+        told = refuser.run(words, Meet('r', second, second, short=49_157))
+        expect_told(words, refused(f'{code} Read file 0 at 49157', 3), Told(*told[:3]))
+
+
+def test_a_length_that_is_not_told(program, folder):
+    """Of the last of eight files, which has become a link to itself since the plan and the torrent were made."""
+    place, plan, torrent = folder / 'files', folder / 'plan', folder / 'torrent'
+    lay_out(place, [b'a'] * 8)
+    shape = ['--name', 'f', '--piece-length', str(BLOCK)]
+    expect(program, ['plan', *shape, '--out', str(plan), str(place)], done())
+    expect(program, ['make', *shape, '--out', str(torrent), str(place)], done())
+    (place / '007').unlink()
+    (place / '007').symlink_to('007')
+    expect(program, ['make', '--plan', str(plan), '--part', '0/1', str(place)], refused('E1 Read file 7 at length', 3))
+    expect(program, ['recheck', str(torrent), str(place)], refused('C1 Read file 7 at length', 3))
 
 
 # How many read at once a file of 16 units, by each way and number of workers.

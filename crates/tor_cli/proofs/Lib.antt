@@ -23,6 +23,7 @@ pub mod PathsTexts
 pub mod PieceBytes
 pub mod PlainLines
 pub mod PlanFaults
+pub mod ProgressRows
 pub mod Proofs
 pub mod Rechecking
 pub mod Reported

@@ -261,6 +261,17 @@ const FAULTS: &[(ErrorKind, How)] = &[
     (ErrorKind::WouldBlock, How::Halves(64)),
 ];
 
+/// Whether a reader that gives more bytes than a file can have, which none of the readers here does, has this line.
+fn is_too_long(alloc: Global, line: &[u8]) -> bool {
+    let error: MakeError<io::Error> = MakeError::Hashing(EngineError::StreamTooLong { file: 1 });
+    is(format!(in alloc; "{error}"), line)
+}
+
+#[test]
+fn tells_that_a_reader_is_too_long(rt: HostRuntime) {
+    assert!(rt; is_too_long(rt.alloc(), b"E5 StreamTooLong"));
+}
+
 #[test]
 fn makes_torrents_of_readers_however_they_are_read(rt: HostRuntime) {
     for row in MADE {
