@@ -16,7 +16,7 @@ use tor_engine::{EngineError, How, PieceHash, Sums, hash_all, hash_pieces};
 use tor_plan::Plan;
 use tor_source::Source;
 
-/// What the files of a source sum up to that a plan has, or the first fault in the order of the files.
+/// The sums of the files of a plan, or the first fault in the order of the files.
 pub fn sums_of_files<S: Source, R: Threads + Sync>(
     rt: &R,
     alloc: Global,
@@ -37,7 +37,8 @@ pub fn sums_of_files<S: Source, R: Threads + Sync>(
     hash_all(rt, alloc, source, plan, how)
 }
 
-/// What each piece of a plan hashes to, none of one of which a byte is not there, or the first fault in their order.
+/// What each piece of a plan hashes to, `None` if a byte of it is not there; or the first fault in the order of the
+/// pieces.
 pub fn hashes_of_pieces<S: Source, R: Threads + Sync>(
     rt: &R,
     alloc: Global,
