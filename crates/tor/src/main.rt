@@ -1,93 +1,9 @@
-//! The program `tor`: it hands the words of the command line and the real streams to `tor_cli`, and ends with the
-//! status that comes back.
+//! The program `tor`: all that it does is in `tor_cli`.
 #![tactic(auto)]
 
-ghost use Rattle.std.specs.Prelude.{◌≡◌, IfOk, map, string_bytes};
-ghost use Rattle.std.specs.Process.{exit_status};
-ghost use Rattle.std.specs.Vec.Iter.{into_iter_items};
-ghost use Rattle.clap.specs.Walk.{texts};
-ghost use Rattle.tor_cli.specs.Run.{IsRunOf};
-ghost use Rattle.tor_cli.specs.Streams.{streams};
-
-use std::alloc::{AllocError, Global};
-use std::env;
-use std::io::{ErrorKind, IsTerminal, Read, Write};
 use std::process::ExitCode;
-use std::sync::Wait;
-use std::thread::Threads;
-use tor_cli::execute::run;
-use tor_cli::fault::Fault;
-use tor_cli::terminal::{TerminalWriter, escapes_for, escapes_of_lines};
+use tor_cli::program::run_program;
 
 fn main(rt: HostRuntime) -> ExitCode {
-    let words = match words_of(&rt) {
-        Ok(words) => words,
-        Err(fault) => return stop(&rt, &fault),
-    };
-    let texts = match texts_of(rt.alloc(), &words) {
-        Ok(texts) => texts,
-        Err(error) => return stop(&rt, &Fault::from(error)),
-    };
-    let shows_progress = rt.stderr().is_terminal();
-    let escapes = escapes_for(&texts, rt.stdout().is_terminal());
-    run_over(
-        &rt,
-        &rt,
-        &texts,
-        &mut rt.stdin(),
-        &mut TerminalWriter::new(rt.stdout(), escapes),
-        &mut TerminalWriter::new(rt.stderr(), escapes_of_lines(shows_progress)),
-        shows_progress,
-    )
-}
-
-/// The words of the command line, from the program's name on.
-fn words_of(rt: &HostRuntime) -> Result<Vec<String>, Fault> {
-    let alloc = rt.alloc();
-    match env::args(rt) {
-        Ok(words) => Ok(word_list(alloc, words)?),
-        Err(error) if error.kind() == ErrorKind::OutOfMemory => Err(Fault::Resources),
-        Err(_) => Err(Fault::usage(alloc, "a word is not UTF-8", "tor")?),
-    }
-}
-
-/// The words that were answered, all of them and in their order.
-fn word_list(alloc: Global, words: env::Args) -> Result<Vec<String>, AllocError>
-    ensures same { IfOk result (λ found. found.items ≡ into_iter_items words) }
-{
-    words.collect(alloc)
-}
-
-/// The words as texts.
-fn texts_of<'a>(alloc: Global, words: &'a [String]) -> Result<Vec<&'a str>, AllocError>
-    ensures same { IfOk result (λ found. texts found.items ≡ map string_bytes words.now) }
-{
-    let mut texts = Vec::new(alloc);
-    'words: for word in words {
-        texts.push(word.as_str())?;
-    }
-    Ok(texts)
-}
-
-/// Runs the program over these words and streams: its status is the process's.
-fn run_over<T: Threads + Wait + Sync + Send + Clone + Drop + 'static, R: Read, W: Write, E: Write>(
-    rt: &T,
-    system: &HostRuntime,
-    words: &[&str],
-    reader: &mut R,
-    out: &mut W,
-    err: &mut E,
-    shows_progress: bool,
-) -> ExitCode
-    ensures { IsRunOf (texts words.entry.now)
-        (streams (R.remaining reader.old) (R.remaining reader.new) (W.contents out.old) (W.contents out.new))
-        (exit_status result) }
-{
-    ExitCode::from(run(rt, system, words, reader, out, err, shows_progress))
-}
-
-/// Tells a fault of the words, which is all that can stop the program before it does anything.
-fn stop(rt: &HostRuntime, fault: &Fault) -> ExitCode {
-    let _ = eprintln!(rt; "tor: {fault}");
-    ExitCode::from(fault.status())
+    run_program(&rt, &rt)
 }

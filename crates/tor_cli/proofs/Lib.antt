@@ -1,7 +1,5 @@
-pub mod AddedWords
 pub mod AttrsLines
 pub mod BadBytes
-pub mod BoundFlags
 pub mod CheckAfter
 pub mod ChosenFiles
 pub mod Doing
@@ -33,5 +31,5 @@ pub mod Siblings
 pub mod Sizes
 pub mod Stops
 pub mod StreamFaults
-pub mod SubCommands
+pub mod WholeFiles
 pub mod WithoutFloats

@@ -1,4 +1,3 @@
-pub mod CommandLine
 pub mod Foreign
 pub mod Fronts
 pub mod Place

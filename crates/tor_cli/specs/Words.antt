@@ -9,7 +9,7 @@ use Rattle.tor_sums.specs.declared.how.How.{How}
 use Rattle.tor_sums.specs.declared.how.How.TheVariants.{One, Halves, Board}
 use Rattle.tor_sums.specs.declared.how.TheConstants.{MAX_WORKERS}
 use Rattle.tor_meta.specs.PieceLength.{auto_piece_length}
-use Rattle.tor_cli.specs.CommandLine.{Parsers, tor_app}
+use Rattle.tor_words.specs.CommandLine.{Parsers, tor_app}
 use Rattle.tor_cli.specs.declared.check.words.CheckOptions.{CheckOptions}
 use Rattle.tor_cli.specs.declared.check.link.MagnetOptions.{MagnetOptions}
 use Rattle.tor_cli.specs.declared.command.Request.{Request}

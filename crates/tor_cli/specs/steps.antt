@@ -1,5 +1,4 @@
 pub mod Answering
-pub mod Bound
 pub mod Ending
 pub mod Found
 pub mod FoundMembers
@@ -7,7 +6,6 @@ pub mod Items
 pub mod Lettering
 pub mod Places
 pub mod Reporting
-pub mod Rules
 pub mod ScanMembers
 pub mod Writing
 pub mod WholeFiles

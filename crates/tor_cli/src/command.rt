@@ -1,43 +1,33 @@
 //! The command line: what the words ask for. Here stand help and the version; each command has a file of its own.
 ghost use Rattle.clap.specs.Walk.{texts};
-ghost use Rattle.clap.specs.Words.{app_of, first_of, found_of, rows_of, subcommand_rows_of, with_subcommand};
-ghost use Rattle.clap.specs.declared.builder.command.Command.{Command as BuiltCommand};
-ghost use Rattle.std.specs.Prelude.{◌≡◌, IfErr, IfOk, IfSome, None, Ok, Some, codes, true};
-ghost use Rattle.tor_cli.specs.CommandLine.{Parsers, explained, piece_apps, tor_app, torrent_apps, with_commands};
+ghost use Rattle.clap.specs.Words.{first_of, found_of, rows_of, subcommand_rows_of};
+ghost use Rattle.std.specs.Prelude.{◌≡◌, IfErr, IfOk, IfSome, None, Ok, Some, codes};
 ghost use Rattle.tor_cli.specs.Words.{Asks, IsOfWords};
 ghost use Rattle.tor_cli.specs.steps.Found.{IsFoundIn};
 
-use crate::check::link::{MagnetOptions, magnet_command, magnet_options};
-use crate::check::words::{CheckOptions, check_command, check_options};
-use crate::edit::words::{EditOptions, edit_command, edit_options};
+use crate::check::link::{MagnetOptions, magnet_options};
+use crate::check::words::{CheckOptions, check_options};
+use crate::edit::words::{EditOptions, edit_options};
 use crate::fault::Fault;
-use crate::lots::join_words::{JoinOptions, join_command, join_options};
+use crate::lots::join_words::{JoinOptions, join_options};
 use crate::lots::lot_words::{LotOptions, lot_options};
 use crate::lots::number::lot_of;
 use crate::lots::plan_options::PlanOptions;
-use crate::lots::plan_words::{plan_command, plan_options};
+use crate::lots::plan_words::plan_options;
 use crate::make::options::{MakeOptions, make_options, piece_length_in};
 use crate::make::piece_length::piece_length_fault;
-use crate::make::words::make_command;
-use crate::proof::words::{
-    ProveOptions, VerifyOptions, prove_command, prove_options, verify_command, verify_options,
-};
+use crate::proof::words::{ProveOptions, VerifyOptions, prove_options, verify_options};
 use crate::recheck::extra_words::{ExtraOptions, extra_options};
 use crate::recheck::lot_words::{LotRecheckOptions, lot_recheck_options};
-use crate::recheck::words::{RecheckOptions, recheck_command, recheck_options};
-use crate::scan::words::{ScanOptions, scan_command, scan_options};
+use crate::recheck::words::{RecheckOptions, recheck_options};
+use crate::scan::words::{ScanOptions, scan_options};
 use crate::text::escape::escaped;
-use crate::torrent_words::{flag_of, with_words};
 use crate::workers::workers_fault;
+use clap::ArgMatches;
 use clap::error::ErrorKind;
-use clap::{ArgMatches, Command};
 use std::alloc::{AllocError, Global};
 use std::thread::Threads;
-
-// What the help ends with.
-const MORE: &str = "\
-Status: 0 done; 1 refused, answered by no, or not all pieces are there; 2 usage; 3 a read or write fault;
-4 memory or a thread refused. More: man tor";
+use tor_words::tor_command;
 
 /// What the words ask for.
 #[derive(Drop)]
@@ -87,61 +77,6 @@ pub fn read_words<'a, T: Threads>(
         Err(error) => Ok(Request::Show(format!(in alloc; "{error}")?)),
     }
 }
-
-fn tor_command<'a>(alloc: Global) -> Result<Command<'a>, AllocError>
-    ensures { IfOk result (λ command. (parsers : Parsers) × (app_of command ≡ tor_app parsers)) }
-{
-    let top = Command::new(alloc, "tor")
-        .version("1.2.0")
-        .about("Makes, checks and rechecks BitTorrent metainfo files, and proves single pieces")
-        .after_help(MORE)
-        .subcommand_required(true)
-        .bin_name("tor")?;
-    let over_torrents = add_torrent_commands(alloc, top)?;
-    add_piece_commands(alloc, over_torrents)
-}
-
-/// Adds the commands over whole torrents.
-fn add_torrent_commands<'a>(alloc: Global, command: Command<'a>) -> Result<Command<'a>, AllocError>
-    ensures { IfOk result (λ added. (parsers : Parsers)
-        × (app_of added ≡ with_commands (app_of command.entry) (torrent_apps parsers))) }
-{
-    let making = with_command(alloc, command, make_command(alloc))?;
-    let planning = with_command(alloc, making, plan_command(alloc))?;
-    let joining = with_command(alloc, planning, join_command(alloc))?;
-    let scanning = with_command(alloc, joining, scan_command(alloc))?;
-    let checking = with_command(alloc, scanning, check_command(alloc))?;
-    let linking = with_command(alloc, checking, magnet_command(alloc))?;
-    with_command(alloc, linking, edit_command(alloc))
-}
-
-/// Adds the commands over single pieces.
-fn add_piece_commands<'a>(alloc: Global, command: Command<'a>) -> Result<Command<'a>, AllocError>
-    ensures { IfOk result (λ added.
-        app_of added ≡ with_commands (app_of command.entry) piece_apps) }
-{
-    let proving = with_command(alloc, command, prove_command(alloc))?;
-    let verifying = with_command(alloc, proving, verify_command(alloc))?;
-    with_command(alloc, verifying, recheck_command(alloc))
-}
-
-/// The command, and one more below it, which takes `--explain` too.
-fn with_command<'a>(
-    alloc: Global,
-    command: Command<'a>,
-    below: Result<Command<'a>, AllocError>,
-) -> Result<Command<'a>, AllocError>
-    ensures { IfOk result (λ added. (sub : BuiltCommand) × (below.entry ≡ Ok sub)
-        × ((explained (app_of sub)).top.is_plain ≡ true →
-        app_of added ≡ with_subcommand (app_of command.entry) (explained (app_of sub)).top)) }
-{
-    let below = below?;
-    let words = vec![in alloc; flag_of(alloc, "explain", EXPLAIN)]?;
-    let explained = with_words(below, words)?;
-    command.subcommand(explained)
-}
-
-const EXPLAIN: &str = "If it stops, says where and why in a second line";
 
 fn request_of<'a, T: Threads>(
     rt: &T,
@@ -375,17 +310,26 @@ fn printed_words(alloc: Global, words: &[&str]) -> Result<Vec<String>, AllocErro
 
 /// The command whose help is named.
 fn command_of(words: &[&str]) -> &'static str {
-    match words {
-        [_, "make", ..] => "tor make",
-        [_, "plan", ..] => "tor plan",
-        [_, "join", ..] => "tor join",
-        [_, "edit", ..] => "tor edit",
-        [_, "scan", ..] => "tor scan",
-        [_, "check", ..] => "tor check",
-        [_, "magnet", ..] => "tor magnet",
-        [_, "prove", ..] => "tor prove",
-        [_, "verify", ..] => "tor verify",
-        [_, "recheck", ..] => "tor recheck",
-        _ => "tor",
+    let Some(word) = words.get(1) else {
+        return "tor";
+    };
+    'commands: for command in COMMANDS {
+        if *word == command.0 {
+            return command.1;
+        }
     }
+    "tor"
 }
+
+const COMMANDS: &[(&str, &str)] = &[
+    ("make", "tor make"),
+    ("plan", "tor plan"),
+    ("join", "tor join"),
+    ("edit", "tor edit"),
+    ("scan", "tor scan"),
+    ("check", "tor check"),
+    ("magnet", "tor magnet"),
+    ("prove", "tor prove"),
+    ("verify", "tor verify"),
+    ("recheck", "tor recheck"),
+];

@@ -1,12 +1,13 @@
 //! The program `tor` over any reader and writers: it makes BitTorrent metainfo files, and tells what foreign ones
-//! describe. The crate `tor` hands it the words of the command line and the real streams.
+//! describe. The crate `tor` has no more than `main`.
 //!
-//! - `execute.rt`: the whole program. `command.rt`: what the words ask for; `workers.rt`: by how many workers.
+//! - `program.rt`: the words of the command line and the real streams. `execute.rt`: what is done with them.
+//!   `command.rt`: what the words ask for, of the commands that `tor_words` has; `workers.rt`: by how many workers.
 //! - `make.rt`: the command `make`; `scan.rt`: `scan`; `check.rt`: `check` and `magnet`; `recheck.rt`: `recheck`;
 //!   `proof.rt`: `prove` and `verify`. Each has a folder of its name, and tells what stands there.
 //! - `edit.rt`: `edit`; `lots.rt`: `plan`, `join`, and `make --plan`.
-//! - `foreign.rt`: the bytes of a file; `whole_file.rt`: a file that appears whole or not at all; `torrent_words.rt`:
-//!   words that several commands have. `answer.rt`: yes and no.
+//! - `foreign.rt`: the bytes of a file; `whole_file.rt`: a file that appears whole or not at all. `answer.rt`: yes and
+//!   no.
 //! - `progress.rt`: how far the reading is, shown on a terminal.
 //! - `text.rt`: numbers, hashes, JSON and the user's text as texts. `terminal.rt`: what a terminal is shown of names.
 //! - `fault.rt`: what stops the program, its line and its status; `fault_of.rt`: which step's fault it is;
@@ -27,13 +28,13 @@ mod foreign;
 pub mod laws;
 mod lots;
 pub mod make;
+pub mod program;
 pub mod progress;
 pub mod proof;
 pub mod recheck;
 pub mod scan;
 pub mod terminal;
 mod text;
-mod torrent_words;
 pub mod unwritten;
 mod whole_file;
 mod workers;

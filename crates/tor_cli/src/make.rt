@@ -1,6 +1,6 @@
 //! The command `make`.
 //!
-//! - `command.rt`: the command; `words.rt`: its words; `options.rt`: what they ask for; `way.rt`: who hashes.
+//! - `command.rt`: the command; `options.rt`: what its words ask for; `way.rt`: who hashes.
 //! - `piece_length.rt`: how long pieces are to be.
 //! - `from_place.rt`: the torrent of a file or a folder. `attrs_file.rt`: the letters of its files; `attrs_text.rt`:
 //!   the text that has them, read.
@@ -21,4 +21,3 @@ mod path_text;
 pub mod paths_text;
 pub(crate) mod piece_length;
 pub(crate) mod way;
-pub(crate) mod words;

@@ -2,7 +2,7 @@
 ghost use Rattle.std.specs.Prelude.{◌≡◌, ◌⊎◌, ◌<◌, IfErr, IfOk, IsSome, OnOk, length, option_map, string_bytes};
 ghost use Rattle.tor_cli.specs.declared.fault.Fault.TheVariants.{Resources};
 ghost use Rattle.tor_cli.specs.declared.fault.Fault.TheVariants.{Write as OutFault};
-ghost use Rattle.tor_cli.specs.steps.WholeFiles.{place_of_whole};
+ghost use Rattle.tor_cli.specs.steps.WholeFiles.{IsNotSent, place_of_whole};
 ghost use Rattle.tor_cli.specs.make.Request.{Sends, SendsFront};
 
 use crate::fault::Fault;
@@ -15,19 +15,32 @@ use std::io::{self, ErrorKind, Write};
 use std::rt::Files;
 use tor_meta::{WriteFault, write_out};
 
+/// Writes the bytes into the file `place`, which appears whole or not at all, or to `out` if there is none.
+pub fn send_whole<W: Write>(
+    system: &HostRuntime,
+    out: &mut W,
+    place: Option<&str>,
+    bytes: &[u8],
+) -> Result<(), Fault>
+    ensures whole { OnOk result (Sends (option_map (λ name. name.now) place.entry)
+        (W.contents out.old) (W.contents out.new) bytes.now) }
+    ensures part { 0 < length bytes.now → IfErr result (IsNotSent (option_map (λ name. name.now) place.entry)
+        (W.contents out.old) (W.contents out.new) bytes.now) }
+{
+    let file = whole_file(system, place)?;
+    Ok(send_into(system, out, &file, bytes)?)
+}
+
 /// A file, and the beginning of the name of the one beside it that is written first. There is none for what is no file,
 /// as a link, a FIFO or a device: bytes go into it as they are written.
 #[derive(Drop)]
-pub struct WholeFile {
+struct WholeFile {
     place: String,
     beside: Option<String>,
 }
 
 /// The file that the bytes are to go to; none if they go to standard output.
-pub fn whole_file(
-    system: &HostRuntime,
-    place: Option<&str>,
-) -> Result<Option<WholeFile>, AllocError>
+fn whole_file(system: &HostRuntime, place: Option<&str>) -> Result<Option<WholeFile>, AllocError>
     ensures { IfOk result (λ file. option_map place_of_whole file ≡ option_map (λ name. name.now) place.entry) }
 {
     match place {
@@ -97,8 +110,8 @@ fn process_name(system: &HostRuntime) -> Result<String, AllocError> {
     }
 }
 
-/// Writes the bytes into the file, which appears whole or not at all, or to `out` if there is none.
-pub fn send_whole<W: Write>(
+/// Writes the bytes into the file, or to `out` if there is none.
+fn send_into<W: Write>(
     system: &HostRuntime,
     out: &mut W,
     file: &Option<WholeFile>,

@@ -1,31 +1,22 @@
-//! `tor magnet`: its words, and the line that it prints.
-ghost use Rattle.clap.specs.Words.{app_of, found_of, rows_of};
+//! `tor magnet`: what its words ask for, and the line that it prints.
+ghost use Rattle.clap.specs.Words.{found_of, rows_of};
 ghost use Rattle.std.specs.Prelude.{◌≡◌, IfOk, IfSome, None, Some, if◌then◌else◌, option_map, string_bytes};
 ghost use Rattle.tor_bencode.specs.Data.{Data};
 ghost use Rattle.tor_bencode.specs.Lawful.{IsLawful};
 ghost use Rattle.tor_bencode.specs.RefView.{view};
 ghost use Rattle.tor_bencode.specs.Spelling.{spelling};
 ghost use Rattle.tor_cli.specs.check.Shown.{magnet_line, tracker_of};
-ghost use Rattle.tor_cli.specs.CommandLine.{magnet_app};
 ghost use Rattle.tor_report.specs.Told.{IsTorrentWith};
 ghost use Rattle.tor_cli.specs.Words.{IsMagnetIn};
 ghost use Rattle.tor_spec.specs.valid.View.{view_of};
 
-use crate::torrent_words::{argument_of, command_with, flag_of};
-use clap::{ArgMatches, Command};
+use clap::ArgMatches;
 use std::alloc::{AllocError, Global};
 use tor_bencode::laws::no_spelling_begins_another;
 use tor_bencode::{BenError, ItemRef, decode_ref};
 use tor_check::Torrent;
 use tor_meta::magnet_with;
 use tor_report::Judged;
-
-const ABOUT: &str = "Prints the magnet link of a torrent";
-
-const NAME: &str =
-    "The link has the torrent's name too, which clients show until they know its files";
-
-const TRACKERS: &str = "The link has the URL of the torrent's tracker too, if it names one";
 
 /// Which torrent's link is printed, and what stands in it.
 #[derive(Clone, Copy)]
@@ -42,18 +33,6 @@ pub struct LinkWords {
     pub name: bool,
     /// The URL of the tracker, if the torrent names one.
     pub tracker: bool,
-}
-
-/// The command `magnet`.
-pub fn magnet_command<'a>(alloc: Global) -> Result<Command<'a>, AllocError>
-    ensures { IfOk result (λ command. app_of command ≡ magnet_app) }
-{
-    let words = vec![in alloc;
-        flag_of(alloc, "name", NAME),
-        flag_of(alloc, "trackers", TRACKERS),
-        argument_of(alloc, "file", 1, "FILE", "The file with the torrent"),
-    ]?;
-    command_with(alloc, "magnet", ABOUT, words)
 }
 
 /// Whose link is to be printed, of the words; none if `clap` let through words that have none.

@@ -1,15 +1,10 @@
-//! The words of `tor check FILE`.
-ghost use Rattle.clap.specs.Words.{app_of, found_of, rows_of};
-ghost use Rattle.std.specs.Prelude.{◌≡◌, IfOk, IfSome};
-ghost use Rattle.tor_cli.specs.CommandLine.{check_app};
+//! What the words of `tor check FILE` ask for.
+ghost use Rattle.clap.specs.Words.{found_of, rows_of};
+ghost use Rattle.std.specs.Prelude.{◌≡◌, IfSome};
 ghost use Rattle.tor_cli.specs.Words.{IsCheckIn, telling_of};
 
 use crate::check::telling::Telling;
-use crate::torrent_words::{
-    argument_of, command_with, flag_of, flag_without, json_option, not_beside,
-};
-use clap::{ArgMatches, Command};
-use std::alloc::{AllocError, Global};
+use clap::ArgMatches;
 
 /// Which torrent is judged, and what is told of it.
 #[derive(Clone, Copy)]
@@ -18,27 +13,6 @@ pub struct CheckOptions<'a> {
     pub torrent: &'a str,
     pub telling: Telling,
 }
-
-/// The command `check`.
-pub fn check_command<'a>(alloc: Global) -> Result<Command<'a>, AllocError>
-    ensures { IfOk result (λ command. app_of command ≡ check_app) }
-{
-    let json = json_option(alloc)?;
-    let roots = not_beside(flag_without(alloc, "roots", "null", ROOTS)?, &["json"])?;
-    let words = vec![in alloc;
-        flag_of(alloc, "null", NULL),
-        json,
-        roots,
-        argument_of(alloc, "file", 1, "FILE", "The file with the torrent"),
-    ]?;
-    command_with(alloc, "check", ABOUT, words)
-}
-
-const ABOUT: &str = "Tells what a torrent describes, or why a file is none";
-
-const ROOTS: &str = "Tells the root of each file too, the hash of its Merkle tree";
-
-const NULL: &str = "Prints the paths of the files alone, each ended by a zero byte";
 
 /// What is to be told, of the words; none if `clap` let through words that have none.
 pub fn check_options<'a>(matches: &ArgMatches<'a>) -> Option<CheckOptions<'a>>

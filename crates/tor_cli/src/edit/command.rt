@@ -8,7 +8,7 @@ ghost use Rattle.tor_edit.specs.Tracker.{IsWithTracker};
 use crate::edit::words::EditOptions;
 use crate::fault::Fault;
 use crate::foreign::read_file;
-use crate::whole_file::{send_whole, whole_file};
+use crate::whole_file::send_whole;
 use std::alloc::Global;
 use std::io::Write;
 use tor_edit::with_tracker;
@@ -27,8 +27,7 @@ pub fn edit<W: Write>(
     let alloc = system.alloc();
     let bytes = read_file(alloc, system, options.torrent)?;
     let edited = edited_of(alloc, &bytes, options)?;
-    let file = whole_file(system, options.out)?;
-    Ok(send_whole(system, out, &file, &edited)?)
+    send_whole(system, out, options.out, &edited)
 }
 
 /// The torrent that the bytes are, with the tracker that the words name.

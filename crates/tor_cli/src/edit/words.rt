@@ -1,14 +1,9 @@
-//! The words of `tor edit`.
-ghost use Rattle.clap.specs.Words.{app_of, found_of, rows_of, rule_of};
-ghost use Rattle.std.specs.Prelude.{◌≡◌, IfOk, IfSome, codes, false};
-ghost use Rattle.tor_cli.specs.CommandLine.{bound, edit_app, edit_rules, option_of};
+//! What the words of `tor edit` ask for.
+ghost use Rattle.clap.specs.Words.{found_of, rows_of};
+ghost use Rattle.std.specs.Prelude.{IfSome};
 ghost use Rattle.tor_cli.specs.Words.{IsEditIn};
-ghost use Rattle.tor_cli.specs.steps.Rules.{HaveRules};
 
-use crate::make::words::out_option;
-use crate::torrent_words::{argument_of, command_with, flag_without, option_of};
-use clap::{Arg, ArgMatches, Command};
-use std::alloc::{AllocError, Global};
+use clap::ArgMatches;
 
 /// Which torrent gets which tracker.
 #[derive(Clone, Copy)]
@@ -19,40 +14,6 @@ pub struct EditOptions<'a> {
     pub tracker: Option<&'a str>,
     /// The file that the torrent goes to; standard output if there is none.
     pub out: Option<&'a str>,
-}
-
-/// The command `edit`.
-pub fn edit_command<'a>(alloc: Global) -> Result<Command<'a>, AllocError>
-    ensures { IfOk result (λ command. app_of command ≡ edit_app) }
-{
-    command_with(alloc, "edit", ABOUT, edit_words(alloc)?)
-}
-
-fn edit_words<'a>(alloc: Global) -> Result<Vec<Arg<'a>>, AllocError>
-    ensures { IfOk result (λ words. HaveRules words.items edit_rules) }
-{
-    let tracker = tracker_option(alloc)?;
-    let none = flag_without(alloc, "no-announce", "announce", NO_ANNOUNCE)?;
-    Ok(vec![in alloc;
-        tracker,
-        none,
-        out_option(alloc),
-        argument_of(alloc, "file", 1, "FILE", "The file with the torrent"),
-    ]?)
-}
-
-const ABOUT: &str = "Writes a torrent with another tracker, or with none";
-
-const ANNOUNCE: &str = "The URL of the tracker, instead of all that the torrent has";
-
-const NO_ANNOUNCE: &str = "The torrent is to have no tracker";
-
-/// It has to be there unless there is to be no tracker.
-fn tracker_option<'a>(alloc: Global) -> Result<Arg<'a>, AllocError>
-    ensures rule { IfOk result (λ option. rule_of option ≡ bound (option_of (codes "announce"))) }
-    ensures local { IfOk result (λ option. option.global ≡ false) }
-{
-    option_of(alloc, "announce", "URL", ANNOUNCE).required_unless_present("no-announce")
 }
 
 /// What is to be edited, of the words; none if `clap` let through words that have none.

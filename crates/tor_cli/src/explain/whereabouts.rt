@@ -76,21 +76,46 @@ fn nowhere_reason(
 ) -> Result<Option<String>, AllocError>
     ensures { IfOk result (λ reason. IfSome reason (λ text. IsPlainText (string_bytes text))) }
 {
-    let alloc = system.alloc();
     if has_file(system, place, torrent)? {
         return Ok(None);
     }
+    if let Some(reason) = below_reason(system, place, torrent)? {
+        return Ok(Some(reason));
+    }
+    let why = if has_file_above(system, place, torrent)? {
+        FILE_ABOVE
+    } else {
+        NO_FILE
+    };
+    Ok(Some(place_text(system.alloc(), place, why)?))
+}
+
+/// That a folder of the torrent's name below the place has a file of it, if one has.
+fn below_reason(
+    system: &HostRuntime,
+    place: &str,
+    torrent: &Torrent,
+) -> Result<Option<String>, AllocError>
+    ensures { IfOk result (λ reason. IfSome reason (λ text. IsPlainText (string_bytes text))) }
+{
+    let alloc = system.alloc();
     let name = torrent.name().as_str();
     let below = format!(in alloc; "{place}/{name}")?;
-    if has_file(system, &below, torrent)? {
-        let why = format!(in alloc; "it has no file of the torrent, and {below} has")?;
-        return Ok(Some(place_text(alloc, place, &why)?));
+    if !has_file(system, &below, torrent)? {
+        return Ok(None);
     }
-    let above = format!(in alloc; "{place}/..")?;
-    if has_file(system, &above, torrent)? {
-        return Ok(Some(place_text(alloc, place, FILE_ABOVE)?));
-    }
-    Ok(Some(place_text(alloc, place, NO_FILE)?))
+    let why = format!(in alloc; "it has no file of the torrent, and {below} has")?;
+    Ok(Some(place_text(alloc, place, &why)?))
+}
+
+/// Whether the folder that the place is in has one.
+fn has_file_above(
+    system: &HostRuntime,
+    place: &str,
+    torrent: &Torrent,
+) -> Result<bool, AllocError> {
+    let above = format!(in system.alloc(); "{place}/..")?;
+    has_file(system, &above, torrent)
 }
 
 /// Whether a file of the torrent is at a place, or below it.

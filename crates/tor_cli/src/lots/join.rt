@@ -8,7 +8,7 @@ use crate::fault::Fault;
 use crate::foreign::read_file;
 use crate::lots::join_words::JoinOptions;
 use crate::text::escape::escaped;
-use crate::whole_file::{send_whole, whole_file};
+use crate::whole_file::send_whole;
 use std::alloc::{AllocError, Global};
 use std::io::Write;
 use tor_meta::{JoinError, join_lots};
@@ -32,8 +32,7 @@ pub fn join<W: Write>(
         Ok(torrent) => torrent,
         Err(error) => return Err(join_fault(alloc, error, &options.parts)?),
     };
-    let file = whole_file(system, options.out)?;
-    Ok(send_whole(system, out, &file, &torrent)?)
+    send_whole(system, out, options.out, &torrent)
 }
 
 /// The bytes of each part.

@@ -2,6 +2,8 @@
 ghost use Rattle.std.specs.Prelude.{◌≡◌, ◌<◌, ◌⊎◌, ℕ, List, Option, IfErr, IfOk, OnOk, length};
 ghost use Rattle.tor_cli.specs.lots.Lots.{DoesLot, IsLotAt, IsNoLot, StopsLot, file_of_lot, places_of_list};
 ghost use Rattle.tor_cli.specs.steps.Writing.{writing};
+ghost use Rattle.tor_meta.specs.Listing.{text_of_listing};
+ghost use Rattle.tor_meta.specs.PlanText.{IsPlanText, plan_bytes};
 ghost use Rattle.tor_sums.specs.How.{IsHow};
 ghost use Rattle.tor_tree.specs.FileList.{paths_of};
 
@@ -10,7 +12,7 @@ use crate::foreign::read_file;
 use crate::lots::lot_words::LotOptions;
 use crate::make::out_file::{refuse_out_among_files, refuse_unwritable};
 use crate::progress::{Counting, Progress, erase};
-use crate::whole_file::{refuse_unmakeable, send_whole, whole_file};
+use crate::whole_file::{refuse_unmakeable, send_whole};
 use std::alloc::AllocError;
 use std::io::Write;
 use std::thread::Threads;
@@ -35,8 +37,7 @@ pub fn lot<T: Threads + Sync, W: Write>(
     let alloc = system.alloc();
     let plan = read_file(alloc, system, options.plan)?;
     let bytes = lot_of_plan(rt, system, &plan, options, shows_progress)?;
-    let file = whole_file(system, options.out)?;
-    Ok(send_whole(system, out, &file, &bytes)?)
+    send_whole(system, out, options.out, &bytes)
 }
 
 /// The bytes of the lot of the plan that has these bytes.
@@ -71,23 +72,62 @@ fn lot_by_workers<T: Threads + Sync>(
     ensures some { IfOk result (λ bytes. 0 < length bytes.items) }
     ensures stopped { IfErr result (IsNoLot options.now.how (file_of_lot options.now) plan.now) }
 {
-    let alloc = system.alloc();
-    let listing = read_plan(alloc, plan)?;
-    let source = source_of(system, options.place, &listing)?;
+    let listing = read_plan(system.alloc(), plan)?;
+    lot_of_listing(rt, system, plan, &listing, options, shows_progress)
+}
+
+/// The bytes of the lot of the plan that tells this. Nothing is hashed unless it can be written.
+fn lot_of_listing<T: Threads + Sync>(
+    rt: &T,
+    system: &HostRuntime,
+    plan: &[u8],
+    listing: &Listing,
+    options: &LotOptions<'_>,
+    shows_progress: bool,
+) -> Result<Vec<u8>, Fault>
+    requires allowed { IsHow options.now.how }
+    requires told { IsPlanText (text_of_listing listing.now) }
+    requires plan { plan.now ≡ plan_bytes (text_of_listing listing.now) }
+    ensures made { IfOk result (λ bytes. IsLotAt options.now.lot plan.now bytes.items) }
+    ensures some { IfOk result (λ bytes. 0 < length bytes.items) }
+    ensures stopped { IfErr result (IsNoLot options.now.how (file_of_lot options.now) plan.now) }
+{
+    let source = source_of(system, options.place, listing)?;
     refuse_out_among_files(system, options.out, &source)?;
     refuse_unwritable(system, options.out)?;
     refuse_unmakeable(system, options.out)?;
+    lot_of_source(rt, system, plan, listing, &source, options, shows_progress)
+}
+
+/// The bytes of the lot, of the files of this source.
+fn lot_of_source<T: Threads + Sync>(
+    rt: &T,
+    system: &HostRuntime,
+    plan: &[u8],
+    listing: &Listing,
+    source: &FolderSource<HostRuntime>,
+    options: &LotOptions<'_>,
+    shows_progress: bool,
+) -> Result<Vec<u8>, Fault>
+    requires allowed { IsHow options.now.how }
+    requires told { IsPlanText (text_of_listing listing.now) }
+    requires plan { plan.now ≡ plan_bytes (text_of_listing listing.now) }
+    requires count { length source.now ≡ length listing.now.list.files }
+    ensures made { IfOk result (λ bytes. IsLotAt options.now.lot plan.now bytes.items) }
+    ensures some { IfOk result (λ bytes. 0 < length bytes.items) }
+    ensures stopped { IfErr result (IsNoLot options.now.how (file_of_lot options.now) plan.now) }
+{
     let progress = Progress::shown(system, listing.list().files().len(), shows_progress);
     let counting = Counting {
-        source: &source,
+        source,
         files: &[],
         progress: &progress,
     };
     let made = make_lot(
         rt,
-        alloc,
+        system.alloc(),
         &counting,
-        &listing,
+        listing,
         plan,
         options.lot.lots,
         options.lot.number,

@@ -10,7 +10,7 @@ use crate::fault::Fault;
 use crate::lots::plan_options::PlanOptions;
 use crate::make::chosen_files::chosen_files;
 use crate::make::command::files_to_make;
-use crate::whole_file::{send_whole, whole_file};
+use crate::whole_file::send_whole;
 use std::io::{Read, Write};
 use tor_meta::make_plan;
 use tor_tree::FilePath;
@@ -30,8 +30,7 @@ pub fn plan<R: Read, W: Write>(
 {
     let chosen = chosen_files(system.alloc(), system, options.torrent.list, reader)?;
     let plan = plan_at(system, options, chosen)?;
-    let file = whole_file(system, options.torrent.out)?;
-    Ok(send_whole(system, out, &file, &plan)?)
+    send_whole(system, out, options.torrent.out, &plan)
 }
 
 /// The plan of the file or the files at a place.

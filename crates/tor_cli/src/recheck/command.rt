@@ -1,16 +1,20 @@
 //! `tor recheck`: which pieces of the torrent in a file are there and right.
-ghost use Rattle.std.specs.Prelude.{◌≡◌, if◌then◌else◌, ℕ, List, [], Option, IfErr, IfOk, true};
+ghost use Rattle.std.specs.Prelude.{◌≡◌, if◌then◌else◌, ℕ, List, [], Option, IfErr, IfOk, OnOk, true};
 ghost use Rattle.tor_cli.specs.recheck.Recheck.{DoesRecheck, IsNotRechecked, IsPastReads, StopsRechecking};
 ghost use Rattle.tor_cli.specs.declared.recheck.source.Links.TheVariants.{Followed, Refused};
-ghost use Rattle.tor_cli.specs.steps.Reporting.{IsToldRechecked};
+ghost use Rattle.tor_cli.specs.steps.Places.{ArePlaced};
+ghost use Rattle.tor_cli.specs.steps.Reporting.{IsReportedOn, IsToldRechecked};
 ghost use Rattle.tor_cli.specs.steps.Writing.{writing};
+ghost use Rattle.tor_report.specs.Told.{Describes};
+ghost use Rattle.tor_sums.specs.How.{IsHow};
+ghost use Rattle.tor_sums.specs.declared.how.How.TheVariants.{Board};
 
 use crate::answer::Answer;
 use crate::fault::Fault;
 use crate::foreign::read_file;
 use crate::progress::Progress;
 use crate::recheck::report::write_report;
-use crate::recheck::source::{Links, placed_at};
+use crate::recheck::source::{Links, PlacedTorrent, placed_at};
 use crate::recheck::text::{Report, report_by};
 use crate::recheck::words::RecheckOptions;
 use std::alloc::{AllocError, Global};
@@ -71,6 +75,32 @@ fn report_at<T: Threads + Sync>(
         Ok(placed) => placed,
         Err(fault) => return Err(fault),
     };
+    match report_on(rt, system, bytes, &placed, options, shows_progress) {
+        Ok(report) => Ok(Told {
+            judged: placed.judged,
+            report,
+        }),
+        Err(fault) => Err(fault),
+    }
+}
+
+/// What is told of the pieces and the files of this torrent, by what is at the places of its files.
+fn report_on<T: Threads + Sync>(
+    rt: &T,
+    system: &HostRuntime,
+    bytes: &[u8],
+    placed: &PlacedTorrent,
+    options: &RecheckOptions<'_>,
+    shows_progress: bool,
+) -> Result<Report, Fault>
+    requires told { Describes bytes.now placed.now.judged.torrent placed.now.judged.hashes }
+    requires placed { ArePlaced options.now.place.now placed.now.judged.torrent placed.now.source }
+    ensures workers { OnOk result (IsHow (Board options.now.workers)) }
+    ensures reported { IfOk result
+        (IsReportedOn options.now placed.now.judged.torrent placed.now.judged.hashes) }
+    ensures stopped { IfErr result (IsNotRechecked options.now.workers bytes.now) }
+    ensures goes_on { options.now.keeps_going ≡ true → IfErr result IsPastReads }
+{
     let files = placed.judged.torrent.files().len();
     let links = links_of(system.alloc(), &placed.source, files, options.follows_links)?;
     let progress = Progress::shown(system, files, shows_progress);
@@ -83,10 +113,7 @@ fn report_at<T: Threads + Sync>(
         options,
         &progress,
     ) {
-        Ok(report) => Ok(Told {
-            judged: placed.judged,
-            report,
-        }),
+        Ok(report) => Ok(report),
         Err(error) => Err(Fault::from(error)),
     }
 }

@@ -6,7 +6,9 @@ ghost use Rattle.tor_cli.specs.recheck.LotRecheck.{DoesLotRecheck, IsFaultOfLot,
 ghost use Rattle.tor_cli.specs.recheck.LotRecheck.{lot_members, lot_text};
 ghost use Rattle.tor_cli.specs.recheck.Recheck.{IsNotRechecked, recheck_answer};
 ghost use Rattle.tor_cli.specs.declared.recheck.source.Links.TheVariants.{Followed, RefusedOfLot};
+ghost use Rattle.tor_cli.specs.steps.Places.{ArePlaced};
 ghost use Rattle.tor_cli.specs.steps.Writing.{writing};
+ghost use Rattle.tor_report.specs.Told.{Describes};
 
 use crate::answer::Answer;
 use crate::fault::Fault;
@@ -16,7 +18,7 @@ use crate::recheck::counts::counts_of;
 use crate::recheck::listing::Form;
 use crate::recheck::lot_words::LotRecheckOptions;
 use crate::recheck::record::bits_value;
-use crate::recheck::source::{Links, placed_at};
+use crate::recheck::source::{Links, PlacedTorrent, placed_at};
 use crate::recheck::text::{answer_of, counts_text, text_of};
 use crate::text::json_line::line_of;
 use crate::workers::board_of;
@@ -72,6 +74,25 @@ fn report_at<T: Threads + Sync>(
         Ok(placed) => placed,
         Err(fault) => return Err(fault),
     };
+    report_on(rt, system, bytes, &placed, options, shows_progress)
+}
+
+/// What is printed of the lot of this torrent, by what is at the places of its files.
+fn report_on<T: Threads + Sync>(
+    rt: &T,
+    system: &HostRuntime,
+    bytes: &[u8],
+    placed: &PlacedTorrent,
+    options: &LotRecheckOptions<'_>,
+    shows_progress: bool,
+) -> Result<LotReport, Fault>
+    requires told { Describes bytes.now placed.now.judged.torrent placed.now.judged.hashes }
+    requires placed { ArePlaced options.now.place.now placed.now.judged.torrent placed.now.source }
+    ensures rechecked { IfOk result
+        (λ report. IsLotRechecked options.now bytes.now (string_bytes report.text) report.answer) }
+    ensures stopped { IfErr result (IsNotRechecked options.now.workers bytes.now) }
+    ensures of_lot { IfErr result (IsFaultOfLot options.now.lot bytes.now) }
+{
     let torrent = &placed.judged.torrent;
     let alloc = system.alloc();
     let progress = Progress::shown(system, torrent.files().len(), shows_progress);

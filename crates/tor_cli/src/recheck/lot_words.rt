@@ -1,17 +1,13 @@
-//! The words of `tor recheck --part K/N FILE PATH`.
-ghost use Rattle.clap.specs.Words.{found_of, rows_of, rule_of};
-ghost use Rattle.std.specs.Prelude.{◌≡◌, ◌∷◌, [], IfOk, IfSome, codes, false};
-ghost use Rattle.tor_cli.specs.CommandLine.{bound, option_of};
+//! What the words of `tor recheck --part K/N FILE PATH` ask for.
+ghost use Rattle.clap.specs.Words.{found_of, rows_of};
+ghost use Rattle.std.specs.Prelude.{IfSome};
 ghost use Rattle.tor_cli.specs.Words.{IsLotRecheckIn};
-ghost use Rattle.tor_cli.specs.steps.Bound.{shut_out_by};
 
 use crate::lots::lot_number::LotNumber;
 use crate::lots::number::lot_of;
 use crate::recheck::listing::{Form, form_of};
-use crate::torrent_words::{not_beside, option_of};
 use crate::workers::workers_of;
-use clap::{Arg, ArgMatches};
-use std::alloc::{AllocError, Global};
+use clap::ArgMatches;
 use std::thread::Threads;
 
 /// Which lot of which torrent is rechecked, against what, and what is printed of it.
@@ -27,20 +23,6 @@ pub struct LotRecheckOptions<'a> {
     pub workers: u32,
     /// A file is read through links below PATH; if not, one behind a link is not there.
     pub follows_links: bool,
-}
-
-const PART: &str =
-    "Looks for the pieces of one part of so many alone, as 0/16: parts are counted from 0";
-
-/// The option that asks for one lot, which tells of no file.
-pub fn part_option<'a>(alloc: Global) -> Result<Arg<'a>, AllocError>
-    ensures rule { IfOk result (λ option. rule_of option ≡ bound (option_of (codes "part"))) }
-    ensures local { IfOk result (λ option. option.global ≡ false) }
-    ensures others { IfOk result
-        (λ option. shut_out_by option ≡ codes "files" ∷ codes "bad" ∷ codes "keep-going" ∷ []) }
-{
-    let part = option_of(alloc, "part", "K/N", PART).conflicts_with("files")?;
-    not_beside(part, &["bad", "keep-going"])
 }
 
 /// What is to be rechecked, of the words; none if they name no lot, or no number of workers, or ask for paths.

@@ -1,12 +1,9 @@
-//! The words of `tor scan`.
-ghost use Rattle.clap.specs.Words.{app_of, found_of, rows_of};
-ghost use Rattle.std.specs.Prelude.{◌≡◌, IfOk, IfSome};
-ghost use Rattle.tor_cli.specs.CommandLine.{scan_app};
+//! What the words of `tor scan` ask for.
+ghost use Rattle.clap.specs.Words.{found_of, rows_of};
+ghost use Rattle.std.specs.Prelude.{◌≡◌, IfSome};
 ghost use Rattle.tor_cli.specs.Words.{IsScanIn, scan_form_of};
 
-use crate::torrent_words::{argument_of, command_with, flag_of, json_option, option_of};
-use clap::{ArgMatches, Command};
-use std::alloc::{AllocError, Global};
+use clap::ArgMatches;
 
 /// What is printed of the files at a place.
 #[derive(Clone, Copy)]
@@ -29,27 +26,6 @@ pub struct ScanOptions<'a> {
     pub list: Option<&'a str>,
     pub form: ScanForm,
 }
-
-/// The command `scan`.
-pub fn scan_command<'a>(alloc: Global) -> Result<Command<'a>, AllocError>
-    ensures { IfOk result (λ command. app_of command ≡ scan_app) }
-{
-    let json = json_option(alloc)?;
-    let words = vec![in alloc;
-        option_of(alloc, "files-from", "FILE", FILES_FROM),
-        flag_of(alloc, "null", NULL),
-        json,
-        argument_of(alloc, "path", 1, "PATH", "The file or folder"),
-    ]?;
-    command_with(alloc, "scan", ABOUT, words)
-}
-
-const ABOUT: &str = "Tells which files make would take, and what it would refuse";
-
-const FILES_FROM: &str =
-    "The file, or - for standard input, that lists which files below PATH to look for, each path ended by a zero byte";
-
-const NULL: &str = "Prints the paths of the files alone, each ended by a zero byte";
 
 /// What is to be scanned, of the words; none if `clap` let through words that have none.
 pub fn scan_options<'a>(matches: &ArgMatches<'a>) -> Option<ScanOptions<'a>>

@@ -4,7 +4,7 @@ use Rattle.std.proofs.lemmas.Result.{IfOk-weaker}
 use Rattle.clap.specs.Walk.{texts}
 use Rattle.clap.specs.Words.{App, Row, is_simple, subcommand_of, subcommand_rows_of}
 use Rattle.clap.specs.declared.parser.matches.ArgMatches.{ArgMatches}
-use Rattle.tor_cli.specs.CommandLine.{Parsers, tor_app}
+use Rattle.tor_words.specs.CommandLine.{Parsers, tor_app}
 use Rattle.tor_cli.specs.Words.{Asks, HasCommand, HasRows}
 use Rattle.tor_cli.specs.steps.Found.{IsFoundIn}
 use Rattle.tor_cli.specs.declared.command.Request.{Request}

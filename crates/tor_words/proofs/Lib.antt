@@ -1,0 +1,4 @@
+mod AddedWords
+mod BoundArguments
+mod CommandTables
+mod SubCommands

@@ -1,0 +1,4 @@
+pub mod Beside
+pub mod Bounds
+pub mod CommandLine
+pub mod Rules
