@@ -1,7 +1,7 @@
 //! Rows after BEP 3, "bencoding", each written out by hand. The first faults of texts are those that `tor check` tells
 //! (tests/reading.py).
 
-use crate::shared::is;
+use crate::shared::{add, are, is_shown};
 use std::alloc::{AllocError, Global};
 use tor_bencode::laws::{
     lawful_one_by_one, lawful_values, lawful_within_more, no_spelling_begins_another,
@@ -46,10 +46,7 @@ fn nested(alloc: Global, count: usize) -> Result<Item, AllocError> {
 
 /// Whether a tree has this spelling.
 fn is_spelling(alloc: Global, tree: &Tree, text: &[u8]) -> bool {
-    match encode(alloc, tree) {
-        Ok(spelling) => spelling.as_slice() == text,
-        Err(_) => false,
-    }
+    are(encode(alloc, tree), text)
 }
 
 /// An item that a test makes.
@@ -74,10 +71,14 @@ fn make(alloc: Global, item: &Made) -> Result<Item, AllocError> {
     }
 }
 
+fn add_mixed(alloc: Global, items: &mut Vec<Item>) -> Result<(), AllocError> {
+    add(items, bytes(alloc, b"spam"))?;
+    add(items, keyed(alloc, &[b"a"]))
+}
+
 fn mixed_list(alloc: Global) -> Result<Item, AllocError> {
     let mut items = Vec::new(alloc);
-    items.push(bytes(alloc, b"spam")?)?;
-    items.push(keyed(alloc, &[b"a"])?)?;
+    add_mixed(alloc, &mut items)?;
     Ok(Item::List(items))
 }
 
@@ -116,9 +117,12 @@ fn finds(item: &Item, key: &[u8], wanted: Option<i64>) -> bool {
 /// A dictionary that has a key twice.
 const TWICE: Made = Made::Keyed(&[b"ab", b"a", b"a"]);
 
-fn is_found(alloc: Global, item: &Made, key: &[u8], wanted: Option<i64>) -> bool {
-    match make(alloc, item) {
-        Ok(item) => finds(&item, key, wanted),
+/// An item, a key of it, and its number, or that it has no value.
+type Found = (Made, &'static [u8], Option<i64>);
+
+fn is_found(alloc: Global, row: &Found) -> bool {
+    match make(alloc, &row.0) {
+        Ok(item) => finds(&item, row.1, row.2),
         Err(_) => false,
     }
 }
@@ -132,8 +136,7 @@ fn holds_seven() -> bool {
 }
 
 fn is_want_of_memory_shown(alloc: Global) -> bool {
-    let error = BenError::Memory;
-    is(format!(in alloc; "{error}"), "B10 Memory")
+    is_shown(alloc, &BenError::Memory, "B10 Memory")
 }
 
 /// What is to come of an item: its spelling, or how many entries it has if it is handed back.
@@ -170,8 +173,7 @@ const JUDGED: &[(Made, Judged)] = &[
     (Made::Keyed(&[b"b", b"a"]), Err(2)),
 ];
 
-/// An item, a key of it, and its number, or that it has no value.
-const FOUND: &[(Made, &[u8], Option<i64>)] = &[
+const FOUND: &[Found] = &[
     (TWICE, b"a", Some(1)),
     (TWICE, b"ab", Some(0)),
     (TWICE, b"b", None),
@@ -179,26 +181,31 @@ const FOUND: &[(Made, &[u8], Option<i64>)] = &[
 ];
 
 /// Whether it comes of an item that is made.
-fn comes_of(alloc: Global, item: &Made, wanted: &Judged) -> bool {
-    match make(alloc, item) {
-        Ok(item) => is_judged(alloc, item, wanted),
+fn comes_of(alloc: Global, row: &(Made, Judged)) -> bool {
+    match make(alloc, &row.0) {
+        Ok(item) => is_judged(alloc, item, &row.1),
         Err(_) => false,
     }
 }
 
+fn are_judged(alloc: Global) -> bool {
+    for row in JUDGED {
+        if !comes_of(alloc, row) {
+            return false;
+        }
+    }
+    holds_seven() && is_want_of_memory_shown(alloc)
+}
+
 #[test]
 fn spells_what_is_lawful_and_hands_back_what_is_not(rt: HostRuntime) {
-    for (item, wanted) in JUDGED {
-        assert!(rt; comes_of(rt.alloc(), item, wanted));
-    }
-    assert!(rt; holds_seven());
-    assert!(rt; is_want_of_memory_shown(rt.alloc()));
+    assert!(rt; are_judged(rt.alloc()));
 }
 
 #[test]
 fn finds_the_value_of_a_key(rt: HostRuntime) {
-    for (item, key, wanted) in FOUND {
-        assert!(rt; is_found(rt.alloc(), item, key, *wanted));
+    for row in FOUND {
+        assert!(rt; is_found(rt.alloc(), row));
     }
 }
 
@@ -243,22 +250,27 @@ fn add_numbers(
     Ok(())
 }
 
-/// Whether the dictionary that a text spells has the first and the last of ten thousand keys, and none after them.
+/// Whether a dictionary has the first and the last of ten thousand keys, and none after them.
+fn has_ten_thousand(item: &Item) -> bool {
+    finds(item, b"000000", Some(7))
+        && finds(item, b"009999", Some(7))
+        && finds(item, b"010000", None)
+}
+
 fn finds_ten_thousand(alloc: Global, text: &[u8]) -> bool {
     match decode(alloc, text) {
-        Ok(tree) => {
-            finds(tree.item(), b"000000", Some(7))
-                && finds(tree.item(), b"009999", Some(7))
-                && finds(tree.item(), b"010000", None)
-        }
+        Ok(tree) => has_ten_thousand(tree.item()),
         Err(_) => false,
     }
 }
 
+/// A text, a key, and where its value is spelled.
+type Span<'a> = (&'a [u8], &'static [u8], Option<(usize, usize)>);
+
 /// Whether a text spells a tree, and the value of a key there.
-fn is_spanned(alloc: Global, text: &[u8], key: &[u8], wanted: Option<(usize, usize)>) -> bool {
-    match decode(alloc, text) {
-        Ok(_tree) => span(text, key) == wanted,
+fn is_spanned(alloc: Global, row: &Span<'_>) -> bool {
+    match decode(alloc, row.0) {
+        Ok(_tree) => span(row.0, row.1) == row.2,
         Err(_) => false,
     }
 }
@@ -267,7 +279,7 @@ fn is_spanned(alloc: Global, text: &[u8], key: &[u8], wanted: Option<(usize, usi
 fn are_read(alloc: Global, text: &[u8]) -> bool {
     text.len() == 110_002
         && finds_ten_thousand(alloc, text)
-        && is_spanned(alloc, text, b"009999", Some((109_998, 110_001)))
+        && is_spanned(alloc, &(text, b"009999", Some((109_998, 110_001))))
         && is_reread(alloc, text)
 }
 
@@ -313,8 +325,7 @@ const SPELLINGS: &[&[u8]] = &[
     HUNDRED,
 ];
 
-/// A text, a key, and where its value is spelled.
-const SPANS: &[(&[u8], &[u8], Option<(usize, usize)>)] = &[
+const SPANS: &[Span<'static>] = &[
     (TORRENT, b"info", Some((7, 140))),
     (TORRENT, b"piece layers", Some((155, 157))),
     (TORRENT, b"announce", None),
@@ -328,19 +339,24 @@ const SPANS: &[(&[u8], &[u8], Option<(usize, usize)>)] = &[
     (b"i3e", b"ab", None),
 ];
 
+fn are_reread(alloc: Global) -> bool {
+    for text in SPELLINGS {
+        if !is_reread(alloc, text) {
+            return false;
+        }
+    }
+    are_pairs_read(alloc, b"d1:al4:spamee", 1) && are_ten_thousand_read(alloc)
+}
+
 #[test]
 fn reads_what_it_writes(rt: HostRuntime) {
-    for text in SPELLINGS {
-        assert!(rt; is_reread(rt.alloc(), text));
-    }
-    assert!(rt; are_pairs_read(rt.alloc(), b"d1:al4:spamee", 1));
-    assert!(rt; are_ten_thousand_read(rt.alloc()));
+    assert!(rt; are_reread(rt.alloc()));
 }
 
 #[test]
 fn spans_values_of_the_root(rt: HostRuntime) {
-    for (text, key, wanted) in SPANS {
-        assert!(rt; is_spanned(rt.alloc(), text, key, *wanted));
+    for row in SPANS {
+        assert!(rt; is_spanned(rt.alloc(), row));
     }
 }
 

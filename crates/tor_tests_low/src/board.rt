@@ -8,5 +8,5 @@
 
 mod callers;
 mod rows;
-mod shared;
+pub mod shared;
 mod trees;

@@ -1,9 +1,10 @@
 //! What the tests share: contents, and lists of files; and which values other threads may have.
 
 use std::alloc::{AllocError, Global};
+use std::fmt::Display;
 use tor_merkle::{Feed, Stack};
 use tor_plan::Plan;
-use tor_tree::{FileList, FilePath, Name};
+use tor_tree::{FileList, FilePath, Kind, Name};
 use tor_v1::PieceSums;
 
 fn add_counted(bytes: &mut Vec<u8>, length: usize) -> Result<(), AllocError> {
@@ -28,9 +29,18 @@ fn name(alloc: Global, text: &str) -> Result<Name, AllocError> {
     Name::new(alloc, text.as_bytes()).ok().ok_or(AllocError)
 }
 
+// Adds an item, if it was made.
+pub(crate) fn add<T: Drop>(
+    items: &mut Vec<T>,
+    made: Result<T, AllocError>,
+) -> Result<(), AllocError> {
+    items.push(made?)?;
+    Ok(())
+}
+
 fn add_names(alloc: Global, text: &str, names: &mut Vec<Name>) -> Result<(), AllocError> {
     for part in text.split('/') {
-        names.push(name(alloc, part)?)?;
+        add(names, name(alloc, part))?;
     }
     Ok(())
 }
@@ -44,7 +54,7 @@ pub(crate) fn path(alloc: Global, text: &str) -> Result<FilePath, AllocError> {
 
 fn add_paths(alloc: Global, texts: &[&str], paths: &mut Vec<FilePath>) -> Result<(), AllocError> {
     for text in texts {
-        paths.push(path(alloc, text)?)?;
+        add(paths, path(alloc, text))?;
     }
     Ok(())
 }
@@ -75,6 +85,23 @@ pub(crate) fn list_of(alloc: Global, rows: &[(&str, u64)]) -> Result<FileList, A
     let mut files = Vec::new(alloc);
     add_files(alloc, rows, &mut files)?;
     list(alloc, files)
+}
+
+// A plan, if its piece length and span are allowed.
+pub(crate) fn plan_of(
+    alloc: Global,
+    list: &FileList,
+    kind: Kind,
+    piece_length: u64,
+    span: u32,
+) -> Result<Plan, AllocError> {
+    if !piece_length.is_power_of_two() || piece_length < 16384 || piece_length > 1 << 30 {
+        return Err(AllocError);
+    }
+    if !span.is_power_of_two() || span < 1 || span > 1024 {
+        return Err(AllocError);
+    }
+    Plan::new(alloc, list, kind, piece_length, span)
 }
 
 // The path of the file at an index of a thousand, after a text.
@@ -110,6 +137,44 @@ pub(crate) fn thousand_files(
 pub(crate) fn is(text: Result<String, AllocError>, wanted: &str) -> bool {
     match text {
         Ok(text) => text.as_str() == wanted,
+        Err(_) => false,
+    }
+}
+
+// Whether a value is written so.
+pub(crate) fn is_shown<T: Display>(alloc: Global, value: &T, wanted: &str) -> bool {
+    is(format!(in alloc; "{value}"), wanted)
+}
+
+// Whether nothing was made, and the fault is written so.
+pub(crate) fn is_refusal<T: Drop, E: Drop + Display>(
+    alloc: Global,
+    made: Result<T, E>,
+    wanted: &str,
+) -> bool {
+    match made {
+        Ok(_) => false,
+        Err(fault) => is_shown(alloc, &fault, wanted),
+    }
+}
+
+// Whether there is a value, and it is equal to this.
+pub(crate) fn is_equal<T: PartialEq + Drop, E: Drop>(made: Result<T, E>, wanted: &T) -> bool {
+    match made {
+        Ok(value) => value == *wanted,
+        Err(_) => false,
+    }
+}
+
+// Whether a path has this text.
+pub(crate) fn is_path(alloc: Global, found: &FilePath, text: &str) -> bool {
+    is_equal(path(alloc, text), found)
+}
+
+// Whether there are items, and these.
+pub(crate) fn are<T: PartialEq + Drop, E: Drop>(made: Result<Vec<T>, E>, wanted: &[T]) -> bool {
+    match made {
+        Ok(items) => items.as_slice() == wanted,
         Err(_) => false,
     }
 }

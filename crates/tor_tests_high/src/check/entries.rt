@@ -18,13 +18,22 @@ fn is_path(path: &FilePath, wanted: &str) -> bool {
     names.next().is_none()
 }
 
+// Whether the entry at an index is this.
+fn is_entry(torrent: &Torrent, index: usize, wanted: &Told) -> bool {
+    match torrent.entries().get(index) {
+        Some(entry) => {
+            entry.length == wanted.1
+                && (entry.pad, entry.exec, entry.hidden) == wanted.2
+                && is_path(&entry.path, wanted.0)
+        }
+        None => false,
+    }
+}
+
 // Whether these are the entries.
 fn are_entries(torrent: &Torrent, wanted: &[Told]) -> bool {
-    for (entry, (path, length, letters)) in torrent.entries().iter().zip(wanted.iter()) {
-        let is_same = entry.length == *length
-            && (entry.pad, entry.exec, entry.hidden) == *letters
-            && is_path(&entry.path, path);
-        if !is_same {
+    for (index, told) in wanted.iter().enumerate() {
+        if !is_entry(torrent, index, told) {
             return false;
         }
     }
@@ -62,12 +71,17 @@ fn are_right(alloc: Global, rows: &[Row]) -> bool {
     true
 }
 
+fn are_all_right(alloc: Global) -> bool {
+    are_right(alloc, PADDED)
+        && are_right(alloc, ALIGNED)
+        && are_right(alloc, AMONG_EMPTY)
+        && are_right(alloc, BETWEEN)
+        && are_right(alloc, LETTERED)
+}
+
 #[test]
 fn tells_the_entries_of_the_v1_side(rt: HostRuntime) {
-    let alloc = rt.alloc();
-    assert!(rt; are_right(alloc, PADDED) && are_right(alloc, ALIGNED));
-    assert!(rt; are_right(alloc, AMONG_EMPTY) && are_right(alloc, BETWEEN));
-    assert!(rt; are_right(alloc, LETTERED));
+    assert!(rt; are_all_right(rt.alloc()));
 }
 
 // Whether bytes are a torrent whose `info` stands there, with so many bytes of SHA-1.
@@ -78,8 +92,11 @@ fn is_described(alloc: Global, bytes: &[u8], info: (usize, usize), sums: usize) 
     }
 }
 
+fn are_described(alloc: Global) -> bool {
+    is_described(alloc, FOLDER_V1, (7, 128), 20) && is_described(alloc, ABC, (7, 140), 0)
+}
+
 #[test]
 fn tells_where_info_stands(rt: HostRuntime) {
-    assert!(rt; is_described(rt.alloc(), FOLDER_V1, (7, 128), 20));
-    assert!(rt; is_described(rt.alloc(), ABC, (7, 140), 0));
+    assert!(rt; are_described(rt.alloc()));
 }

@@ -220,19 +220,37 @@ const TABLES: &[&[Row]] = &[
     TOO_DEEP,
 ];
 
+fn are_all_right(alloc: Global) -> bool {
+    for rows in TABLES {
+        if !are_right(alloc, rows) {
+            return false;
+        }
+    }
+    DEEP.len() == 129
+}
+
 #[test]
 fn makes_torrents_of_contents(rt: HostRuntime) {
-    for rows in TABLES {
-        assert!(rt; are_right(rt.alloc(), rows));
+    assert!(rt; are_all_right(rt.alloc()));
+}
+
+fn are_links(alloc: Global) -> bool {
+    for row in LINKS {
+        if !is_link(alloc, row) {
+            return false;
+        }
     }
-    assert!(rt; DEEP.len() == 129);
+    true
+}
+
+fn are_bytes_written(alloc: Global) -> bool {
+    are_written(alloc, b"abc")
+        && are_many_written(alloc, 100_000)
+        && stops_after_twelve(true)
+        && stops_after_twelve(false)
 }
 
 #[test]
 fn writes_out_all_bytes_and_links(rt: HostRuntime) {
-    assert!(rt; are_written(rt.alloc(), b"abc") && are_many_written(rt.alloc(), 100_000));
-    assert!(rt; stops_after_twelve(true) && stops_after_twelve(false));
-    for row in LINKS {
-        assert!(rt; is_link(rt.alloc(), row));
-    }
+    assert!(rt; are_bytes_written(rt.alloc()) && are_links(rt.alloc()));
 }

@@ -1,5 +1,6 @@
 //! What the tests share: tables of torrents, and files that are given as a text, as `a=ab b=*9 c`.
 
+use crate::check::telling::add;
 use std::alloc::{AllocError, Global};
 use tor_source::MemSource;
 use tor_tree::{FilePath, Kind, Name};
@@ -17,7 +18,7 @@ pub(crate) fn name(alloc: Global, text: &str) -> Result<Name, AllocError> {
 
 fn add_names(alloc: Global, text: &str, names: &mut Vec<Name>) -> Result<(), AllocError> {
     for part in text.split('/') {
-        names.push(name(alloc, part)?)?;
+        add(names, name(alloc, part))?;
     }
     Ok(())
 }
@@ -52,7 +53,7 @@ fn content(alloc: Global, text: &str) -> Result<Vec<u8>, AllocError> {
 fn add_paths(alloc: Global, given: &str, paths: &mut Vec<FilePath>) -> Result<(), AllocError> {
     for text in given.split_whitespace() {
         let (text, _) = parts(text);
-        paths.push(path(alloc, text)?)?;
+        add(paths, path(alloc, text))?;
     }
     Ok(())
 }
@@ -77,7 +78,7 @@ fn add_contents(
     contents: &mut Vec<Option<Vec<u8>>>,
 ) -> Result<(), AllocError> {
     for text in given.split_whitespace() {
-        contents.push(content_there(alloc, text)?)?;
+        add(contents, content_there(alloc, text))?;
     }
     Ok(())
 }
@@ -106,7 +107,7 @@ fn add_files(
     files: &mut Vec<(FilePath, Vec<u8>)>,
 ) -> Result<(), AllocError> {
     for text in given.split_whitespace() {
-        files.push(file(alloc, text)?)?;
+        add(files, file(alloc, text))?;
     }
     Ok(())
 }

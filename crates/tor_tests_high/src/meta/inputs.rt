@@ -1,5 +1,6 @@
 //! Readers that have as much as may be read, more, or a fault that no input of the program has. Few bytes a read are
 //! tried on the program (`tests/made.py`, `tests/streams.py`).
+use crate::check::telling::are;
 use crate::meta::sources::order;
 use std::alloc::{AllocError, Global};
 use std::io::{self, Error, ErrorKind, Read};
@@ -25,10 +26,7 @@ impl Read for Faulting<'_> {
 // Whether five bytes are read where so many may be.
 fn are_five_read(alloc: Global) -> bool {
     let mut five: &[u8] = b"abcde";
-    match read_limited(alloc, &mut five, 5) {
-        Ok(bytes) => bytes.as_slice() == b"abcde".as_slice(),
-        Err(_) => false,
-    }
+    are(read_limited(alloc, &mut five, 5), b"abcde")
 }
 
 // Whether six are too many.
@@ -54,11 +52,13 @@ fn is_all_dropped(alloc: Global) -> bool {
     drop_input(alloc, &mut reader).is_ok() && reader.is_empty()
 }
 
+fn is_limit_kept(alloc: Global) -> bool {
+    are_five_read(alloc) && are_six_too_many(alloc) && is_fault_told(alloc) && is_all_dropped(alloc)
+}
+
 #[test]
 fn reads_up_to_the_limit(rt: HostRuntime) {
-    let alloc = rt.alloc();
-    assert!(rt; are_five_read(alloc) && are_six_too_many(alloc));
-    assert!(rt; is_fault_told(alloc) && is_all_dropped(alloc));
+    assert!(rt; is_limit_kept(rt.alloc()));
 }
 
 // Whether a reader's fault is told if workers are behind it.

@@ -1,6 +1,7 @@
 //! Plans that are read and written again, spelled by hand (BEP 3, "bencoding"). What is no plan, and what is joined, is
 //! tried on the built program (`tests/joining.py`).
 
+use crate::check::telling::are;
 use std::alloc::Global;
 use tor_meta::{read_plan, write_plan};
 
@@ -19,17 +20,16 @@ const FLAGS: &[u8] =
 
 fn is_read(alloc: Global, bytes: &[u8]) -> bool {
     match read_plan(alloc, bytes) {
-        Ok(listing) => match write_plan(alloc, &listing) {
-            Ok(again) => again.as_slice() == bytes,
-            Err(_) => false,
-        },
+        Ok(listing) => are(write_plan(alloc, &listing), bytes),
         Err(_) => false,
     }
 }
 
+fn are_read(alloc: Global) -> bool {
+    is_read(alloc, PLAN) && is_read(alloc, OTHER) && is_read(alloc, FLAGS)
+}
+
 #[test]
 fn reads_plans(rt: HostRuntime) {
-    assert!(rt; is_read(rt.alloc(), PLAN));
-    assert!(rt; is_read(rt.alloc(), OTHER));
-    assert!(rt; is_read(rt.alloc(), FLAGS));
+    assert!(rt; are_read(rt.alloc()));
 }

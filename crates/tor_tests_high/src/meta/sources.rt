@@ -136,12 +136,20 @@ const MADE: &[Row] = &[
 /// How many bytes a read gives at most.
 const STEPS: &[usize] = &[1, 7, 16384];
 
+/// Whether a row holds however many bytes a read gives at most.
+fn is_made_in_each_step<R: AllocGlobal + Threads + Sync>(rt: &R, row: &Row) -> bool {
+    for step in STEPS {
+        if !is_made_in_steps(rt, row, *step) {
+            return false;
+        }
+    }
+    true
+}
+
 #[test]
 fn makes_torrents_of_a_source_however_it_is_read(rt: HostRuntime) {
-    for step in STEPS {
-        for row in MADE {
-            assert!(rt; is_made_in_steps(&rt, row, *step));
-        }
+    for row in MADE {
+        assert!(rt; is_made_in_each_step(&rt, row));
     }
 }
 
@@ -291,9 +299,6 @@ fn is_fault<R: AllocGlobal + Threads + Sync>(rt: &R, row: &Fault, shape: Shape, 
     }
 }
 
-/// Each kind.
-const KINDS: &[Shape] = &[V1, V2, HYBRID];
-
 /// Two bytes of one unit of four pieces.
 const IN_ONE_UNIT: &Fault = &(
     "a=*40000",
@@ -320,14 +325,18 @@ const LENGTHS: &[Told] = &[
 ];
 
 /// What is refused before the source is asked, and once it was.
+fn are_told<R: AllocGlobal + Threads + Sync>(rt: &R, rows: &[Told]) -> bool {
+    for row in rows {
+        if !is_each_told(rt, row) {
+            return false;
+        }
+    }
+    true
+}
+
 #[test]
 fn refuses_orders_and_paths_before_the_source_is_asked(rt: HostRuntime) {
-    for row in REFUSED {
-        assert!(rt; is_each_told(&rt, row));
-    }
-    for row in LENGTHS {
-        assert!(rt; is_each_told(&rt, row));
-    }
+    assert!(rt; are_told(&rt, REFUSED) && are_told(&rt, LENGTHS));
 }
 
 /// Files of one byte, of which one is told another length when it is asked again, or has no byte to read.
@@ -391,17 +400,40 @@ fn is_change<R: AllocGlobal + Threads + Sync>(rt: &R, row: &Change, how: How) ->
     is_answer(rt, &source, &paths, &order, wanted)
 }
 
+/// Whether a row holds, each way to share the units.
+fn is_each_change<R: AllocGlobal + Threads + Sync>(rt: &R, row: &Change) -> bool {
+    for how in EACH_HOW {
+        if !is_change(rt, row, *how) {
+            return false;
+        }
+    }
+    true
+}
+
+fn are_changes<R: AllocGlobal + Threads + Sync>(rt: &R) -> bool {
+    for row in CHANGES {
+        if !is_each_change(rt, row) {
+            return false;
+        }
+    }
+    true
+}
+
+/// Whether a row holds for each kind, with so many pieces a unit.
+fn is_fault_of_each<R: AllocGlobal + Threads + Sync>(rt: &R, row: &Fault, span: u32) -> bool {
+    is_fault(rt, row, V1, span) && is_fault(rt, row, V2, span) && is_fault(rt, row, HYBRID, span)
+}
+
+fn are_faults<R: AllocGlobal + Threads + Sync>(rt: &R) -> bool {
+    for row in FAULTS {
+        if !is_fault_of_each(rt, row, 1) {
+            return false;
+        }
+    }
+    is_fault_of_each(rt, IN_ONE_UNIT, 4)
+}
+
 #[test]
 fn tells_faults_under_the_numbers_handed_in(rt: HostRuntime) {
-    for shape in KINDS {
-        for row in FAULTS {
-            assert!(rt; is_fault(&rt, row, *shape, 1));
-        }
-        assert!(rt; is_fault(&rt, IN_ONE_UNIT, *shape, 4));
-    }
-    for how in EACH_HOW {
-        for row in CHANGES {
-            assert!(rt; is_change(&rt, row, *how));
-        }
-    }
+    assert!(rt; are_faults(&rt) && are_changes(&rt));
 }

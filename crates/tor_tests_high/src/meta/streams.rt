@@ -1,6 +1,7 @@
 //! Torrents of readers that are read once, by each number of workers and each cutting of the reads, and why there is
 //! none.
 
+use crate::check::telling::are;
 use crate::meta::contents::{ABC, EMPTY_HYBRID, EMPTY_V1, EMPTY_V2, FOLDER_HYBRID, FOLDER_V1};
 use crate::meta::given::{Row, Shape, contents, is, paths};
 use crate::meta::sources::order;
@@ -117,10 +118,7 @@ const WAYS: &[(usize, How)] = &[
 ];
 
 fn is_made<R: AllocGlobal + Abort + Threads + Wait + Sync>(rt: &R, row: &Row, way: Way) -> bool {
-    match made(rt, row, way, &AtomicU64::new(0)) {
-        Ok(bytes) => bytes.as_slice() == row.2,
-        Err(_) => false,
-    }
+    are(made(rt, row, way, &AtomicU64::new(0)), row.2)
 }
 
 /// Whether a row is made each way, with a tail or without.
@@ -272,15 +270,38 @@ fn tells_that_a_reader_is_too_long(rt: HostRuntime) {
     assert!(rt; is_too_long(rt.alloc(), b"E5 StreamTooLong"));
 }
 
+fn are_made<R: AllocGlobal + Abort + Threads + Wait + Sync>(rt: &R) -> bool {
+    for row in MADE {
+        if !is_made_each_way(rt, row, false) {
+            return false;
+        }
+    }
+    true
+}
+
+fn are_refused<R: AllocGlobal + Abort + Threads + Wait + Sync>(rt: &R) -> bool {
+    for row in REFUSED {
+        if !is_refused(rt, row) {
+            return false;
+        }
+    }
+    true
+}
+
+fn are_told<R: AllocGlobal + Abort + Threads + Wait + Sync>(rt: &R) -> bool {
+    for row in FAULTS {
+        if !is_told(rt, row.0, row.1) {
+            return false;
+        }
+    }
+    true
+}
+
+fn hold<R: AllocGlobal + Abort + Threads + Wait + Sync>(rt: &R) -> bool {
+    are_made(rt) && are_refused(rt) && are_told(rt)
+}
+
 #[test]
 fn makes_torrents_of_readers_however_they_are_read(rt: HostRuntime) {
-    for row in MADE {
-        assert!(rt; is_made_each_way(&rt, row, false));
-    }
-    for row in REFUSED {
-        assert!(rt; is_refused(&rt, row));
-    }
-    for (kind, how) in FAULTS {
-        assert!(rt; is_told(&rt, *kind, *how));
-    }
+    assert!(rt; hold(&rt));
 }

@@ -2,11 +2,13 @@
 //! worked out by hand; each hash in hexadecimal is of Python's hashlib. Those that the program makes are in
 //! `tests/made.py`.
 
+use crate::check::telling::are;
 use crate::meta::contents::{ABC, FOLDER_V1};
 use crate::meta::given::Row;
 use crate::meta::sources::order;
 use crate::meta::streams::is_made_each_way;
 use std::alloc::{AllocError, Global};
+use std::process::Abort;
 use std::sync::Wait;
 use std::thread::Threads;
 use tor_engine::How;
@@ -99,10 +101,10 @@ fn is_made_by_workers<T: AllocGlobal + Threads + Wait + Sync + Send + Clone + Dr
     order: &Order,
 ) -> bool {
     let mut reader: &[u8] = b"abc";
-    match torrent_by_streams(rt, rt.alloc(), &mut reader, order, Attr::NONE) {
-        Ok(torrent) => torrent.as_slice() == INPUT,
-        Err(_) => false,
-    }
+    are(
+        torrent_by_streams(rt, rt.alloc(), &mut reader, order, Attr::NONE),
+        INPUT,
+    )
 }
 
 fn is_input_padded<T: AllocGlobal + Threads + Wait + Sync + Send + Clone + Drop + 'static>(
@@ -114,10 +116,16 @@ fn is_input_padded<T: AllocGlobal + Threads + Wait + Sync + Send + Clone + Drop 
     }
 }
 
+fn are_padded<R: AllocGlobal + Abort + Threads + Wait + Sync>(rt: &R) -> bool {
+    for row in TAILED {
+        if !is_made_each_way(rt, row, true) {
+            return false;
+        }
+    }
+    true
+}
+
 #[test]
 fn pads_the_last_file(rt: HostRuntime) {
-    for row in TAILED {
-        assert!(rt; is_made_each_way(&rt, row, true));
-    }
-    assert!(rt; is_input_padded(&rt));
+    assert!(rt; are_padded(&rt) && is_input_padded(&rt));
 }

@@ -51,7 +51,9 @@ impl Source for Meeting {
 
 /// The workers, how many of the four reads have to begin, how often the first looks for the others, and whether they
 /// come. If the units are dealt out beforehand, one waits behind the first.
-const MEETINGS: &[(How, u64, u64, bool)] = &[
+type Row = (How, u64, u64, bool);
+
+const MEETINGS: &[Row] = &[
     (How::One, 2, 1000, false),
     (How::Halves(1), 2, 1000, false),
     (How::Halves(2), 2, 10_000_000, true),
@@ -60,7 +62,9 @@ const MEETINGS: &[(How, u64, u64, bool)] = &[
     (How::Board(2), 4, 10_000_000, true),
 ];
 
-fn meet<R: AllocGlobal + Threads + Sync>(rt: &R, how: How, reads: u64, turns: u64) -> bool {
+/// Whether a row holds.
+fn meet<R: AllocGlobal + Threads + Sync>(rt: &R, row: &Row) -> bool {
+    let (how, reads, turns, wanted) = *row;
     let Ok((mut order, paths)) = asked(rt.alloc(), &(Kind::V2, true, 16384, "a"), "a") else {
         return false;
     };
@@ -70,12 +74,12 @@ fn meet<R: AllocGlobal + Threads + Sync>(rt: &R, how: How, reads: u64, turns: u6
         turns,
         begun: AtomicU64::new(0),
     };
-    make(rt, rt.alloc(), &source, &paths, &order).is_ok()
+    make(rt, rt.alloc(), &source, &paths, &order).is_ok() == wanted
 }
 
 #[test]
 fn workers_of_an_order_meet(rt: HostRuntime) {
-    for (how, reads, turns, wanted) in MEETINGS {
-        assert!(rt; meet(&rt, *how, *reads, *turns) == *wanted);
+    for row in MEETINGS {
+        assert!(rt; meet(&rt, row));
     }
 }

@@ -108,10 +108,14 @@ fn is_changed<R: AllocGlobal + Abort + Threads + Sync>(
     }
 }
 
+fn are_changed<R: AllocGlobal + Abort + Threads + Sync>(rt: &R) -> bool {
+    is_changed(rt, 1, 0) == Some(true)
+        && is_changed(rt, 3, 0) == Some(false)
+        && is_changed(rt, 3, 1) == Some(true)
+        && is_changed(rt, 9, 8) == Some(false)
+}
+
 #[test]
 fn tells_a_file_that_ends_within_a_lot(rt: HostRuntime) {
-    assert!(rt; is_changed(&rt, 1, 0) == Some(true));
-    assert!(rt; is_changed(&rt, 3, 0) == Some(false));
-    assert!(rt; is_changed(&rt, 3, 1) == Some(true));
-    assert!(rt; is_changed(&rt, 9, 8) == Some(false));
+    assert!(rt; are_changed(&rt));
 }

@@ -75,10 +75,25 @@ fn is_grown(alloc: Global) -> bool {
     }
 }
 
+fn is_none_past_eight(alloc: Global) -> bool {
+    match bits_of(alloc, 8, 1) {
+        Ok(bits) => is_none_past_the_end(&bits),
+        Err(_) => false,
+    }
+}
+
+fn is_none_of_none(alloc: Global) -> bool {
+    match bits_of(alloc, 0, 1) {
+        Ok(bits) => bits.is_empty(),
+        Err(_) => false,
+    }
+}
+
+fn hold(alloc: Global) -> bool {
+    is_none_past_eight(alloc) && is_none_of_none(alloc) && is_grown(alloc)
+}
+
 #[test]
 fn makes_room_and_has_no_bit_past_the_end(rt: HostRuntime) {
-    let alloc = rt.alloc();
-    assert!(rt; matches!(bits_of(alloc, 8, 1), Ok(bits) if is_none_past_the_end(&bits)));
-    assert!(rt; matches!(bits_of(alloc, 0, 1), Ok(bits) if bits.is_empty()));
-    assert!(rt; is_grown(alloc));
+    assert!(rt; hold(rt.alloc()));
 }

@@ -46,22 +46,31 @@ const ROWS: &[Row] = &[
     (PADDED, 1, &[(17, 1, 1, Some((0, 1)))]),
 ];
 
-fn is_told(alloc: Global, file: &FilePieces, bits: &Bits, wanted: &Told) -> bool {
-    let (first, count, length, range) = *wanted;
+fn is_range(alloc: Global, file: &FilePieces, bits: &Bits, range: Option<(u64, u64)>) -> bool {
     let Ok(ranges) = file.bad_ranges(alloc, bits) else {
         return false;
     };
-    let is_range = match ranges.as_slice() {
+    match ranges.as_slice() {
         [] => range.is_none(),
         [only] => range == Some((only.from, only.to)),
         _ => false,
-    };
-    is_range && (file.first(), file.count(), file.length()) == (first, count, length)
+    }
+}
+
+fn is_told(alloc: Global, files: &[FilePieces], index: usize, bits: &Bits, wanted: &Told) -> bool {
+    let (first, count, length, range) = *wanted;
+    match files.get(index) {
+        Some(file) => {
+            (file.first(), file.count(), file.length()) == (first, count, length)
+                && is_range(alloc, file, bits, range)
+        }
+        None => false,
+    }
 }
 
 fn are_told(alloc: Global, files: &[FilePieces], bits: &Bits, wanted: &[Told]) -> bool {
-    for (file, told) in files.iter().zip(wanted.iter()) {
-        if !is_told(alloc, file, bits, told) {
+    for (index, told) in wanted.iter().enumerate() {
+        if !is_told(alloc, files, index, bits, told) {
             return false;
         }
     }

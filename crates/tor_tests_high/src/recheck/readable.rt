@@ -11,10 +11,9 @@ use tor_engine::{How, ReadFault};
 use tor_recheck::{FileFound, ReadableFindings, recheck_readable};
 use tor_source::FailSource;
 
-/// A torrent in parts, the files that are there, their faults, and what is told: the bits and the bitfield, the state
-/// of each file, and each fault.
+/// The files that are there, their faults, and what is told: the bits and the bitfield, the state of each file, and
+/// each fault.
 type Row = (
-    Parts,
     &'static str,
     &'static [FaultAt],
     &'static str,
@@ -72,12 +71,11 @@ const FORTY: &[&[u8]] = &[
     b"ee",
 ];
 
-const ROWS: &[Row] = &[
+const ROWS_OF_BOTH: &[Row] = &[
     // Nothing fails.
-    (OF_BOTH, "a=ab b=c", &[], "11 c0", "Whole Whole ", ""),
+    ("a=ab b=c", &[], "11 c0", "Whole Whole ", ""),
     // The first file cannot be read, the second is told all the same.
     (
-        OF_BOTH,
         "a=ab b=c",
         &[(0, Some(0), 4)],
         "01 40",
@@ -86,7 +84,6 @@ const ROWS: &[Row] = &[
     ),
     // Its second byte alone, and the length of the second.
     (
-        OF_BOTH,
         "a=ab b=c",
         &[(0, Some(1), 5), (1, None, 6)],
         "00 00",
@@ -95,25 +92,28 @@ const ROWS: &[Row] = &[
     ),
     // A byte that no piece has, of a file that is longer, and one of a piece that is not there.
     (
-        OF_BOTH,
         "a=a b=cx",
         &[(0, Some(0), 4), (1, Some(1), 5)],
         "01 40",
         "Short Whole ",
         "",
     ),
+];
+
+const ROWS_OF_OTHER: &[Row] = &[
     // The SHA-1 departs, and the other file fails.
     (
-        OF_OTHER_SUM,
         "a=ab b=c",
         &[(1, Some(0), 9)],
         "00 00",
         "Whole Bad ",
         "1 Some(0) 9, ",
     ),
+];
+
+const ROWS_OF_JOINED: &[Row] = &[
     // One piece of two files, of which each fails, and one of them.
     (
-        JOINED,
         "a=ab b=c",
         &[(1, Some(0), 8), (0, Some(1), 7)],
         "0 00",
@@ -121,17 +121,18 @@ const ROWS: &[Row] = &[
         "0 Some(1) 7, 1 Some(0) 8, ",
     ),
     (
-        JOINED,
         "a=ab b=c",
         &[(1, Some(0), 8)],
         "0 00",
         "Bad Bad ",
         "1 Some(0) 8, ",
     ),
+];
+
+const ROWS_OF_FORTY: &[Row] = &[
     // Within a piece of the first unit of forty, at the first byte of one of the second and the last byte of one of the
     // third; a later one of the first is not met.
     (
-        FORTY,
         "a=*655360",
         &[
             (0, Some(60_000), 2),
@@ -195,15 +196,34 @@ fn is_each_answer<R: AllocGlobal + Threads + Sync>(
     true
 }
 
-fn is_right<R: AllocGlobal + Threads + Sync>(rt: &R, row: &Row) -> Result<bool, AllocError> {
-    let torrent = torrent_of(rt.alloc(), row.0)?;
-    let source = failing(rt.alloc(), row.1, row.2)?;
-    Ok(is_each_answer(rt, &source, &torrent, row.3, row.4, row.5))
+fn is_right<R: AllocGlobal + Threads + Sync>(
+    rt: &R,
+    parts: Parts,
+    row: &Row,
+) -> Result<bool, AllocError> {
+    let torrent = torrent_of(rt.alloc(), parts)?;
+    let source = failing(rt.alloc(), row.0, row.1)?;
+    Ok(is_each_answer(rt, &source, &torrent, row.2, row.3, row.4))
+}
+
+/// Whether each row holds of the torrent that the parts are.
+fn are_right<R: AllocGlobal + Threads + Sync>(rt: &R, parts: Parts, rows: &[Row]) -> bool {
+    for row in rows {
+        if is_right(rt, parts, row) != Ok(true) {
+            return false;
+        }
+    }
+    true
+}
+
+fn are_all_right<R: AllocGlobal + Threads + Sync>(rt: &R) -> bool {
+    are_right(rt, OF_BOTH, ROWS_OF_BOTH)
+        && are_right(rt, OF_OTHER_SUM, ROWS_OF_OTHER)
+        && are_right(rt, JOINED, ROWS_OF_JOINED)
+        && are_right(rt, FORTY, ROWS_OF_FORTY)
 }
 
 #[test]
 fn keeps_going_where_places_fail(rt: HostRuntime) {
-    for row in ROWS {
-        assert!(rt; is_right(&rt, row) == Ok(true));
-    }
+    assert!(rt; are_all_right(&rt));
 }

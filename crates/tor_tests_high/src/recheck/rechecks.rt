@@ -27,9 +27,9 @@ const EACH_HOW: &[How] = &[
 /// A fault: of a file, for its length or at an offset; and its number.
 pub(crate) type FaultAt = (u64, Option<u64>, u64);
 
-/// A torrent in parts, the files that are there, their faults, and what is answered: which pieces are there and right by
-/// their bits and, after a space, the bitfield; or why there are none.
-type Row = (Parts, &'static str, &'static [FaultAt], &'static str);
+/// The files that are there, their faults, and what is answered: which pieces are there and right by their bits and,
+/// after a space, the bitfield; or why there are none.
+type Row = (&'static str, &'static [FaultAt], &'static str);
 
 /// The SHA-256 of `ab`, and of `c`.
 const ROOT_A: &[u8] = b"\xfb\x8e\x20\xfc\x2e\x4c\x3f\x24\x8c\x60\xc3\x9b\xd6\x52\xf3\xc1\
@@ -149,50 +149,63 @@ const LONG: &[&[u8]] = &[
     b"ee",
 ];
 
-const ROWS: &[Row] = &[
-    (OF_BOTH, "a=ab b=c", &[], "11 c0"),
-    (OF_BOTH, "a=ab b", &[], "10 80"),
-    (OF_BOTH, "", &[], "00 00"),
-    (OF_BOTH, "a=ab b=d", &[], "10 80"),
-    (OF_BOTH, "a=a b=c", &[], "01 40"),
+const ROWS_OF_BOTH: &[Row] = &[
+    ("a=ab b=c", &[], "11 c0"),
+    ("a=ab b", &[], "10 80"),
+    ("", &[], "00 00"),
+    ("a=ab b=d", &[], "10 80"),
+    ("a=a b=c", &[], "01 40"),
     // The byte past the end is not read.
-    (OF_BOTH, "a=ab b=cx", &[], "11 c0"),
-    (OF_OTHER_SUM, "a=ab b=c", &[], "01 40"),
-    (OF_OTHER_ROOT, "a=ab b=c", &[], "01 40"),
-    (JOINED, "a=ab b=c", &[], "1 80"),
-    (JOINED, "a=ab b", &[], "0 00"),
-    (JOINED, "a=ab b=cx", &[], "1 80"),
-    (JOINED, "a=abc b=c", &[], "1 80"),
-    // No piece, whether the file is there or not.
-    (EMPTY, "a=", &[], " "),
-    (EMPTY, "a", &[], " "),
-    (NINE, "a=abcdefghi", &[], "111111111 ff80"),
-    (NINE, "a=abcdefgh", &[], "111111110 ff00"),
-    (NINE, "a=abcdXfghi", &[], "111101111 f780"),
-    (NINE, "a", &[], "000000000 0000"),
-    // Padding is always there.
-    (PADDED, "a", &[], "111111111111111110 ffff80"),
-    (PADDED, "a=x", &[], "111111111111111111 ffffc0"),
-    (LONG, "a", &[], "00 00"),
-    // The whole of the file, and its first block alone.
-    (LONG, "a=*16385", &[], "11 c0"),
-    (LONG, "a=*16384", &[], "10 80"),
+    ("a=ab b=cx", &[], "11 c0"),
     // Byte 0 of the first file, which is read.
     (
-        OF_BOTH,
         "a=ab b=c",
         &[(0, Some(0), 4)],
         "Read { file: 0, start: Some(0), fault: 4 }",
     ),
     // Byte 0 of the first file, which is not read, since the file has another length.
-    (OF_BOTH, "a=a b=c", &[(0, Some(0), 4)], "01 40"),
+    ("a=a b=c", &[(0, Some(0), 4)], "01 40"),
     // A length.
     (
-        OF_BOTH,
         "",
         &[(1, None, 7)],
         "Read { file: 1, start: None, fault: 7 }",
     ),
+];
+
+const ROWS_OF_OTHER: &[Row] = &[("a=ab b=c", &[], "01 40")];
+
+const ROWS_OF_JOINED: &[Row] = &[
+    ("a=ab b=c", &[], "1 80"),
+    ("a=ab b", &[], "0 00"),
+    ("a=ab b=cx", &[], "1 80"),
+    ("a=abc b=c", &[], "1 80"),
+];
+
+const ROWS_OF_EMPTY: &[Row] = &[
+    // No piece, whether the file is there or not.
+    ("a=", &[], " "),
+    ("a", &[], " "),
+];
+
+const ROWS_OF_NINE: &[Row] = &[
+    ("a=abcdefghi", &[], "111111111 ff80"),
+    ("a=abcdefgh", &[], "111111110 ff00"),
+    ("a=abcdXfghi", &[], "111101111 f780"),
+    ("a", &[], "000000000 0000"),
+];
+
+const ROWS_OF_PADDED: &[Row] = &[
+    // Padding is always there.
+    ("a", &[], "111111111111111110 ffff80"),
+    ("a=x", &[], "111111111111111111 ffffc0"),
+];
+
+const ROWS_OF_LONG: &[Row] = &[
+    ("a", &[], "00 00"),
+    // The whole of the file, and its first block alone.
+    ("a=*16385", &[], "11 c0"),
+    ("a=*16384", &[], "10 80"),
 ];
 
 /// The torrent that the parts are. That they are none, as in none of the tables, is told as want of memory.
@@ -252,9 +265,14 @@ fn is_each_answer<S: Source, R: AllocGlobal + Threads + Sync>(
     true
 }
 
-fn is_right<R: AllocGlobal + Threads + Sync>(rt: &R, row: &Row, each_how: &[How]) -> bool {
-    match failing(rt.alloc(), row.1, row.2) {
-        Ok(source) => is_each_answer(rt, &source, row.0, each_how, row.3),
+fn is_right<R: AllocGlobal + Threads + Sync>(
+    rt: &R,
+    parts: Parts,
+    row: &Row,
+    each_how: &[How],
+) -> bool {
+    match failing(rt.alloc(), row.0, row.1) {
+        Ok(source) => is_each_answer(rt, &source, parts, each_how, row.2),
         Err(_) => false,
     }
 }
@@ -269,7 +287,7 @@ const OUTSIDE: &[How] = &[
 ];
 
 /// They are refused if the length of a file fails too.
-const REFUSED: &Row = &(OF_BOTH, "", &[(0, None, 4)], "Workers");
+const REFUSED: &Row = &("", &[(0, None, 4)], "Workers");
 
 /// Files of two bytes and of one. Once both lengths were asked, one of the files is told to have another.
 #[derive(Drop)]
@@ -319,13 +337,38 @@ fn is_change<R: AllocGlobal + Threads + Sync>(rt: &R, row: &Change) -> bool {
     is_each_answer(rt, &source, OF_BOTH, &[How::Halves(2)], wanted)
 }
 
+/// Whether each row holds of the torrent that the parts are.
+fn are_right<R: AllocGlobal + Threads + Sync>(rt: &R, parts: Parts, rows: &[Row]) -> bool {
+    for row in rows {
+        if !is_right(rt, parts, row, EACH_HOW) {
+            return false;
+        }
+    }
+    true
+}
+
+fn are_all_right<R: AllocGlobal + Threads + Sync>(rt: &R) -> bool {
+    are_right(rt, OF_BOTH, ROWS_OF_BOTH)
+        && are_right(rt, OF_OTHER_SUM, ROWS_OF_OTHER)
+        && are_right(rt, OF_OTHER_ROOT, ROWS_OF_OTHER)
+        && are_right(rt, JOINED, ROWS_OF_JOINED)
+        && are_right(rt, EMPTY, ROWS_OF_EMPTY)
+        && are_right(rt, NINE, ROWS_OF_NINE)
+        && are_right(rt, PADDED, ROWS_OF_PADDED)
+        && are_right(rt, LONG, ROWS_OF_LONG)
+        && is_right(rt, OF_BOTH, REFUSED, OUTSIDE)
+}
+
+fn are_changes<R: AllocGlobal + Threads + Sync>(rt: &R) -> bool {
+    for row in CHANGES {
+        if !is_change(rt, row) {
+            return false;
+        }
+    }
+    true
+}
+
 #[test]
 fn tells_which_pieces_are_there_and_right_or_the_first_fault(rt: HostRuntime) {
-    for row in ROWS {
-        assert!(rt; is_right(&rt, row, EACH_HOW));
-    }
-    assert!(rt; is_right(&rt, REFUSED, OUTSIDE));
-    for row in CHANGES {
-        assert!(rt; is_change(&rt, row));
-    }
+    assert!(rt; are_all_right(&rt) && are_changes(&rt));
 }

@@ -47,14 +47,17 @@ fn are_digits(bytes: &[u8]) -> bool {
     true
 }
 
+fn is_counted(alloc: Global) -> bool {
+    written(alloc, 300_000, 10_000) == Some((100_000, None))
+        && written(alloc, 65_546, 10_000) == Some((65_546, Some(65_546)))
+        && written(alloc, 99_999, 10_000) == Some((99_999, Some(99_999)))
+        && written(alloc, 0, 10_000) == Some((0, Some(0)))
+        && written(alloc, 7, 0) == Some((0, None))
+}
+
 #[test]
 fn counts_what_went_out(rt: HostRuntime) {
-    let alloc = rt.alloc();
-    assert!(rt; written(alloc, 300_000, 10_000) == Some((100_000, None)));
-    assert!(rt; written(alloc, 65_546, 10_000) == Some((65_546, Some(65_546))));
-    assert!(rt; written(alloc, 99_999, 10_000) == Some((99_999, Some(99_999))));
-    assert!(rt; written(alloc, 0, 10_000) == Some((0, Some(0))));
-    assert!(rt; written(alloc, 7, 0) == Some((0, None)));
+    assert!(rt; is_counted(rt.alloc()));
 }
 
 /// Whether a text of `size` bytes of 7 comes whole, behind another.
@@ -78,10 +81,12 @@ fn sevens(alloc: Global, size: usize) -> Result<Vec<u8>, AllocError> {
     Ok(text)
 }
 
+const SIZES: &[usize] = &[1, 65_533, 65_534, 65_535, 65_536, 65_537, 200_000];
+
 #[test]
 fn passes_long_texts(rt: HostRuntime) {
-    for size in [1, 65_533, 65_534, 65_535, 65_536, 65_537, 200_000] {
-        assert!(rt; passes(rt.alloc(), size));
+    for size in SIZES {
+        assert!(rt; passes(rt.alloc(), *size));
     }
 }
 
@@ -96,45 +101,53 @@ fn is_text(alloc: Global, segments: &[Segment], text: &str) -> bool {
         && out.as_slice() == text.as_bytes()
 }
 
+const TEXT: &[u8] = b"\x08\x0c\n\r\t\"\\\x1f\x7f";
+
+fn is_text_spelled(alloc: Global) -> bool {
+    is_text(
+        alloc,
+        &[
+            Segment::JsonString(TEXT),
+            Segment::Text(" "),
+            Segment::Spelled(Spelling::InLine, TEXT),
+        ],
+        "\"\\b\\f\\n\\r\\t\\\"\\\\\\u001f\x7f\" \\x08\\x0c\\x0a\\x0d\\x09\"\\x5c\\x1f\\x7f",
+    )
+}
+
+fn are_others_spelled(alloc: Global) -> bool {
+    is_text(
+        alloc,
+        &[
+            Segment::Spelled(Spelling::InAscii, b"a\xffz\\"),
+            Segment::Spelled(Spelling::AsciiInJson, b"a\xffz\\\"\x7f\x1f"),
+            Segment::Spelled(Spelling::AsIs, b"\x00"),
+        ],
+        "a\\xffz\\x5ca\\\\xffz\\\\x5c\\\"\\\\x7f\\\\x1f\0",
+    )
+}
+
+fn are_values_spelled(alloc: Global) -> bool {
+    is_text(
+        alloc,
+        &[
+            Segment::Number(0),
+            Segment::Digits(b"\x00\xff\x1a"),
+            Segment::Number(18_446_744_073_709_551_615),
+            Segment::JsonHash("12", Some(b"\xab")),
+            Segment::JsonHash("12", None),
+            Segment::JsonBool(true),
+            Segment::JsonBool(false),
+        ],
+        "000ff1a18446744073709551615\"12ab\"nulltruefalse",
+    )
+}
+
+fn are_spelled(alloc: Global) -> bool {
+    is_text_spelled(alloc) && are_others_spelled(alloc) && are_values_spelled(alloc)
+}
+
 #[test]
 fn spells_segments(rt: HostRuntime) {
-    let alloc = rt.alloc();
-    let text = b"\x08\x0c\n\r\t\"\\\x1f\x7f";
-    assert!(rt;
-        is_text(
-            alloc,
-            &[
-                Segment::JsonString(text),
-                Segment::Text(" "),
-                Segment::Spelled(Spelling::InLine, text)
-            ],
-            "\"\\b\\f\\n\\r\\t\\\"\\\\\\u001f\x7f\" \\x08\\x0c\\x0a\\x0d\\x09\"\\x5c\\x1f\\x7f"
-        )
-    );
-    assert!(rt;
-        is_text(
-            alloc,
-            &[
-                Segment::Spelled(Spelling::InAscii, b"a\xffz\\"),
-                Segment::Spelled(Spelling::AsciiInJson, b"a\xffz\\\"\x7f\x1f"),
-                Segment::Spelled(Spelling::AsIs, b"\x00")
-            ],
-            "a\\xffz\\x5ca\\\\xffz\\\\x5c\\\"\\\\x7f\\\\x1f\0"
-        )
-    );
-    assert!(rt;
-        is_text(
-            alloc,
-            &[
-                Segment::Number(0),
-                Segment::Digits(b"\x00\xff\x1a"),
-                Segment::Number(18_446_744_073_709_551_615),
-                Segment::JsonHash("12", Some(b"\xab")),
-                Segment::JsonHash("12", None),
-                Segment::JsonBool(true),
-                Segment::JsonBool(false),
-            ],
-            "000ff1a18446744073709551615\"12ab\"nulltruefalse"
-        )
-    );
+    assert!(rt; are_spelled(rt.alloc()));
 }

@@ -2,7 +2,7 @@
 ghost use Rattle.std.specs.Thread.{IsSync};
 ghost use Rattle.tor_board.specs.Seats.{IsSeatOf};
 
-use crate::board::shared::{all_tops, end, has_root, root_over, tops, two_trees, work};
+use crate::board::shared::{all_tops, end, halves, has_root, root_over, tops, two_trees, work};
 use std::process::Abort;
 use std::thread::{Threads, join};
 use tor_board::{Board, Closed, Given, Seat};
@@ -16,9 +16,7 @@ fn share<R: AllocGlobal + Abort + Threads + Sync>(
     requires { IsSeatOf board.now seat }
     ensures { IsSeatOf board.now result.0 }
 {
-    let Ok((one, other)) = board.split(seat) else {
-        panic!(rt; "one seat")
-    };
+    let (one, other) = halves(rt, board, seat);
     let (first, second) = join(
         rt,
         move || -> (Seat, Vec<(u64, Given)>)
@@ -70,9 +68,7 @@ fn share_by_four<R: AllocGlobal + Abort + Threads + Sync>(
     requires { IsSeatOf board.now seat }
     ensures { IsSeatOf board.now result.0 }
 {
-    let Ok((one, other)) = board.split(seat) else {
-        panic!(rt; "one seat")
-    };
+    let (one, other) = halves(rt, board, seat);
     let (first, second) = join(
         rt,
         move || -> (Seat, Vec<(u64, Given)>)

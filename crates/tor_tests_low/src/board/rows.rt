@@ -4,7 +4,7 @@ ghost use Rattle.tor_board.specs.Seats.{IsSeatOf, knows};
 ghost use Rattle.tor_board.specs.Desks.{holding};
 
 use crate::board::shared::{
-    Outcome, all_tops, end, joined, one_tree, tops, unit_hash, work, worked,
+    Outcome, all_tops, end, gets_none, halves, joined, one_tree, tops, unit_hash, work, worked,
 };
 use std::process::Abort;
 use tor_board::{Board, Closed, Given, Job, Seat, SplitError};
@@ -57,8 +57,7 @@ fn is_closed_at_once<R: AllocGlobal + Abort>(rt: &R) -> bool {
 
 #[test]
 fn five_units_in_order(rt: HostRuntime) {
-    assert!(rt; is_in_order(&rt));
-    assert!(rt; is_closed_at_once(&rt));
+    assert!(rt; is_in_order(&rt) && is_closed_at_once(&rt));
 }
 
 /// A unit, which has to be there.
@@ -130,35 +129,24 @@ fn fail_two<R: Abort>(rt: &R, board: &Board, one: &mut Seat, other: &mut Seat)
     let _third = board.give(other, c, unit_hash(2));
 }
 
-/// Whether a claim gets no unit.
-fn gets_none(board: &Board, seat: &mut Seat) -> bool
-    requires { IsSeatOf board.now seat.old }
-    ensures { IsSeatOf board.now seat.new }
+/// Of three seats two fail units, after which no seat gets one.
+fn fail_by_three<R: Abort>(rt: &R, board: &Board, seat: Seat) -> Seat
+    requires { IsSeatOf board.now seat }
+    ensures { IsSeatOf board.now result }
 {
-    match board.claim(seat) {
-        None => true,
-        Some(job) => {
-            board.fail(seat, job);
-            false
-        }
-    }
+    let (mut one, seat) = halves(rt, board, seat);
+    let (mut other, mut third) = halves(rt, board, seat);
+    fail_two(rt, board, &mut one, &mut other);
+    assert!(rt; gets_none(board, &mut one));
+    assert!(rt; gets_none(board, &mut third));
+    board.join(board.join(one, other), third)
 }
 
 #[test]
 fn the_least_failed_unit_is_told(rt: HostRuntime) {
     let (board, seat) = one_tree(&rt, 5, 0);
-    let Ok((mut one, seat)) = board.split(seat) else {
-        panic!(rt; "one seat")
-    };
-    let Ok((mut other, mut third)) = board.split(seat) else {
-        panic!(rt; "two seats")
-    };
-    fail_two(&rt, &board, &mut one, &mut other);
-    let none = gets_none(&board, &mut one) && gets_none(&board, &mut third);
-    let seat = board.join(board.join(one, other), third);
-    let closed = end(&rt, board, seat);
-    assert!(rt; none);
-    assert!(rt; is_closed_as(&closed, Some(1), &None));
+    let seat = fail_by_three(&rt, &board, seat);
+    assert!(rt; is_closed_as(&end(&rt, board, seat), Some(1), &None));
 }
 
 /// Splits off a seat of each of these rooms, and then one more, which has to be refused: the seat handed back then, and
@@ -167,14 +155,10 @@ fn split_off<R: Abort>(rt: &R, board: &Board, seat: Seat, rooms: &[u32]) -> (Sea
     requires { IsSeatOf board.now seat }
     ensures { IsSeatOf board.now result.0 × IsSeatOf board.now result.1 }
 {
-    let Ok((mut seat, mut others)) = board.split(seat) else {
-        panic!(rt; "one seat")
-    };
+    let (mut seat, mut others) = halves(rt, board, seat);
     assert!(rt; Board::room(&others) == 128);
     'rooms: for room in rooms {
-        let Ok((old, new)) = board.split(seat) else {
-            panic!(rt; "too many seats")
-        };
+        let (old, new) = halves(rt, board, seat);
         assert!(rt; Board::room(&new) == *room);
         seat = old;
         others = board.join(others, new);

@@ -52,6 +52,31 @@ pub(crate) fn two_trees<R: AllocGlobal + Abort>(
     Board::open(alloc, &Forest { trees }, 2 * alone + one + two).expect(rt, "memory")
 }
 
+/// Two seats of one, which has to have room for them.
+pub(crate) fn halves<R: Abort>(rt: &R, board: &Board, seat: Seat) -> (Seat, Seat)
+    requires { IsSeatOf board.now seat }
+    ensures { IsSeatOf board.now result.0 × IsSeatOf board.now result.1 }
+{
+    match board.split(seat) {
+        Ok(seats) => seats,
+        Err(_) => panic!(rt; "no room for two seats"),
+    }
+}
+
+/// Whether a claim gets no unit.
+pub(crate) fn gets_none(board: &Board, seat: &mut Seat) -> bool
+    requires { IsSeatOf board.now seat.old }
+    ensures { IsSeatOf board.now seat.new }
+{
+    match board.claim(seat) {
+        None => true,
+        Some(job) => {
+            board.fail(seat, job);
+            false
+        }
+    }
+}
+
 /// Claims at most so many units and gives each at once: which they were, and what each give told.
 pub(crate) fn work<R: AllocGlobal + Abort>(
     rt: &R,
@@ -101,10 +126,18 @@ pub(crate) fn worked<R: AllocGlobal + Abort>(rt: &R, board: Board, seat: Seat, m
     Outcome { told, closed }
 }
 
+/// Whether that give came second to so many nodes.
+fn is_joined(told: &[(u64, Given)], index: usize, joined: u32) -> bool {
+    match told.get(index) {
+        Some(one) => one.1.joined == joined,
+        None => false,
+    }
+}
+
 /// Whether the gives came second to so many nodes, in this order.
 pub(crate) fn joined(told: &[(u64, Given)], wanted: &[u32]) -> bool {
-    for (one, joined) in told.iter().zip(wanted) {
-        if one.1.joined != *joined {
+    for (index, joined) in wanted.iter().enumerate() {
+        if !is_joined(told, index, *joined) {
             return false;
         }
     }

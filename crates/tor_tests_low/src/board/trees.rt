@@ -67,11 +67,17 @@ fn is_complete<R: AllocGlobal + Abort>(rt: &R, count: u64) -> bool {
 /// Of 64 units, and one less or more.
 const COUNTS: &[u64] = &[63, 64, 65];
 
+fn are_complete_trees<R: AllocGlobal + Abort>(rt: &R) -> bool {
+    for count in COUNTS {
+        if !is_complete(rt, *count) {
+            return false;
+        }
+    }
+    true
+}
+
 #[test]
 fn trees_of_other_counts_and_levels(rt: HostRuntime) {
-    assert!(rt; is_above_level_0(&rt));
-    assert!(rt; has_two_trees(&rt));
-    for count in COUNTS {
-        assert!(rt; is_complete(&rt, *count));
-    }
+    assert!(rt; is_above_level_0(&rt) && has_two_trees(&rt));
+    assert!(rt; are_complete_trees(&rt));
 }

@@ -4,6 +4,7 @@ ghost use Rattle.std.specs.Thread.{IsSync};
 ghost use Rattle.tor_board.specs.Seats.{IsSeatOf, forest_of, knows, unit_count};
 ghost use Rattle.tor_source.specs.Answers.{any_answers};
 
+use crate::board::shared::{end, gets_none};
 use crate::engine::faults::{FaultAt, failing};
 use crate::engine::shared::{comes_to, is_fault, plan_of};
 use crate::engine::workers::{
@@ -49,8 +50,7 @@ const PIECES_OF_EIGHT: Gathering = Gathering {
 
 #[test]
 fn board_shares(rt: HostRuntime) {
-    assert!(rt; meet(&rt, &OF_EIGHT));
-    assert!(rt; meet(&rt, &PIECES_OF_EIGHT));
+    assert!(rt; meet(&rt, &OF_EIGHT) && meet(&rt, &PIECES_OF_EIGHT));
 }
 
 /// What one worker did.
@@ -164,8 +164,7 @@ fn is_shared_by_two<R: AllocGlobal + Abort + Threads + Sync>(
     };
     let ((first, one), (second, other)) = work_by_two(rt, source, plan, &board, seat);
     let seat = board.join(first, second);
-    assert!(rt; Board::room(&seat) == 256);
-    let closed = board.close(seat);
+    let closed = end(rt, board, seat);
     are_shares(&one, &other, &closed)
 }
 
@@ -227,20 +226,6 @@ fn is_of_fourth(told: &Result<Share, (u64, EngineError<u64>)>) -> bool {
     )
 }
 
-/// Whether a claim gets no unit.
-fn gets_none(board: &Board, seat: &mut Seat) -> bool
-    requires { IsSeatOf board.now seat.old }
-    ensures { IsSeatOf board.now seat.new }
-{
-    match board.claim(seat) {
-        None => true,
-        Some(job) => {
-            board.fail(seat, job);
-            false
-        }
-    }
-}
-
 /// Whether a worker tells the fault of the fourth unit, and the board that this one failed.
 fn tells_the_fourth<R: AllocGlobal + Abort>(rt: &R, source: &FailSource, plan: &Plan) -> bool {
     trees_are_runs();
@@ -251,8 +236,7 @@ fn tells_the_fourth<R: AllocGlobal + Abort>(rt: &R, source: &FailSource, plan: &
     };
     let is_told = is_of_fourth(&work(rt.alloc(), source, plan, &board, &mut seat));
     let is_done = gets_none(&board, &mut seat);
-    assert!(rt; Board::room(&seat) == 256);
-    let closed = board.close(seat);
+    let closed = end(rt, board, seat);
     is_told && is_done && closed.least_failed == Some(3)
 }
 
@@ -299,6 +283,5 @@ fn holds_of_ten<R: AllocGlobal + Abort>(rt: &R) -> bool {
 
 #[test]
 fn callers_share_a_board_and_are_told_the_least_unit_that_fails(rt: HostRuntime) {
-    assert!(rt; hold_of_eight(&rt));
-    assert!(rt; holds_of_ten(&rt));
+    assert!(rt; hold_of_eight(&rt) && holds_of_ten(&rt));
 }

@@ -194,16 +194,24 @@ fn is_change<R: AllocGlobal + Abort + Threads + Sync>(
 }
 
 /// Whether it is, each way to share the units.
-fn is_each_change<R: AllocGlobal + Abort + Threads + Sync>(rt: &R, row: &Change) -> bool {
-    let Ok(plan) = plan_of(rt, &[row.2], Kind::V2, 16384, 1) else {
-        return false;
-    };
+fn is_change_each_way<R: AllocGlobal + Abort + Threads + Sync>(
+    rt: &R,
+    plan: &Plan,
+    row: &Change,
+) -> bool {
     for how in EACH_HOW {
-        if !is_change(rt, &plan, row, *how) {
+        if !is_change(rt, plan, row, *how) {
             return false;
         }
     }
     true
+}
+
+fn is_each_change<R: AllocGlobal + Abort + Threads + Sync>(rt: &R, row: &Change) -> bool {
+    match plan_of(rt, &[row.2], Kind::V2, 16384, 1) {
+        Ok(plan) => is_change_each_way(rt, &plan, row),
+        Err(_) => false,
+    }
 }
 
 /// The files, their lengths in the plan, and the fault.
@@ -254,20 +262,54 @@ fn is_answered<R: AllocGlobal + Abort + Threads + Sync>(rt: &R, offset: u64) -> 
     }
 }
 
+/// Whether the first fault of a row is answered for each kind.
+fn is_first_of_each<R: AllocGlobal + Abort + Threads + Sync>(rt: &R, row: &Faults) -> bool {
+    is_first_fault(rt, row, Kind::V1)
+        && is_first_fault(rt, row, Kind::V2)
+        && is_first_fault(rt, row, Kind::Hybrid)
+}
+
+fn are_first<R: AllocGlobal + Abort + Threads + Sync>(rt: &R) -> bool {
+    for row in FAULTS {
+        if !is_first_of_each(rt, row) {
+            return false;
+        }
+    }
+    true
+}
+
+fn are_changes<R: AllocGlobal + Abort + Threads + Sync>(rt: &R) -> bool {
+    for row in CHANGES {
+        if !is_each_change(rt, row) {
+            return false;
+        }
+    }
+    true
+}
+
+fn are_of_lengths<R: AllocGlobal + Abort + Threads + Sync>(rt: &R) -> bool {
+    for row in LENGTHS {
+        if !is_fault_of_lengths(rt, row) {
+            return false;
+        }
+    }
+    true
+}
+
+fn are_answered<R: AllocGlobal + Abort + Threads + Sync>(rt: &R) -> bool {
+    for turn in 0..40u64 {
+        if !is_answered(rt, turn.saturating_mul(4096)) {
+            return false;
+        }
+    }
+    true
+}
+
+fn hold<R: AllocGlobal + Abort + Threads + Sync>(rt: &R) -> bool {
+    are_first(rt) && are_changes(rt) && are_of_lengths(rt) && are_answered(rt)
+}
+
 #[test]
 fn answers_the_first_fault_in_the_order_of_the_plan(rt: HostRuntime) {
-    for row in FAULTS {
-        assert!(rt; is_first_fault(&rt, row, Kind::V1));
-        assert!(rt; is_first_fault(&rt, row, Kind::V2));
-        assert!(rt; is_first_fault(&rt, row, Kind::Hybrid));
-    }
-    for row in CHANGES {
-        assert!(rt; is_each_change(&rt, row));
-    }
-    for row in LENGTHS {
-        assert!(rt; is_fault_of_lengths(&rt, row));
-    }
-    for turn in 0..40u64 {
-        assert!(rt; is_answered(&rt, turn.saturating_mul(4096)));
-    }
+    assert!(rt; hold(&rt));
 }

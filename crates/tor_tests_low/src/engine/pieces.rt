@@ -2,6 +2,7 @@
 
 use crate::engine::faults::{Changing, file_that_changes};
 use crate::engine::shared::{EACH_HOW, allowed, files_with, plan_of};
+use crate::shared::are;
 use std::process::Abort;
 use std::sync::atomic::Ordering::SeqCst;
 use std::thread::Threads;
@@ -82,27 +83,34 @@ fn is_right<R: AllocGlobal + Abort + Threads + Sync>(
     row: &Row,
     how: How,
 ) -> bool {
-    match hash_pieces(rt, rt.alloc(), source, plan, allowed(rt, how)) {
-        Ok(hashes) => hashes.as_slice() == row.2,
-        Err(_) => false,
-    }
+    let made = hash_pieces(rt, rt.alloc(), source, plan, allowed(rt, how));
+    are(made, row.2)
 }
 
 /// Whether they are, each way to share the units.
+fn is_right_each_way<R: AllocGlobal + Abort + Threads + Sync>(
+    rt: &R,
+    source: &MemSource,
+    plan: &Plan,
+    row: &Row,
+) -> bool {
+    for how in EACH_HOW {
+        if !is_right(rt, source, plan, row, *how) {
+            return false;
+        }
+    }
+    true
+}
+
 fn is_planned_right<R: AllocGlobal + Abort + Threads + Sync>(
     rt: &R,
     source: &MemSource,
     row: &Row,
 ) -> bool {
-    let Ok(plan) = plan_of(rt, &[2, 1], row.0, 16_384, 16) else {
-        return false;
-    };
-    for how in EACH_HOW {
-        if !is_right(rt, source, &plan, row, *how) {
-            return false;
-        }
+    match plan_of(rt, &[2, 1], row.0, 16_384, 16) {
+        Ok(plan) => is_right_each_way(rt, source, &plan, row),
+        Err(_) => false,
     }
-    true
 }
 
 fn is_each_right<R: AllocGlobal + Abort + Threads + Sync>(rt: &R, row: &Row) -> bool {
@@ -155,19 +163,37 @@ fn is_change<R: AllocGlobal + Abort + Threads + Sync>(
     is_changed(rt, plan, &source, how) == wanted && source.reads.load(SeqCst) == reads
 }
 
+fn are_changes<R: AllocGlobal + Abort + Threads + Sync>(
+    rt: &R,
+    plan: &Plan,
+    file: u64,
+    how: How,
+) -> bool {
+    for row in CHANGES {
+        if !is_change(rt, plan, row, file, how) {
+            return false;
+        }
+    }
+    true
+}
+
 /// Whether each row holds of a file, by one worker and by two.
 fn is_each_change<R: AllocGlobal + Abort + Threads + Sync>(
     rt: &R,
     lengths: &[u64],
     file: u64,
 ) -> bool {
-    let Ok(plan) = plan_of(rt, lengths, Kind::V2, 16_384, 16) else {
-        return false;
-    };
-    for row in CHANGES {
-        if !is_change(rt, &plan, row, file, How::One)
-            || !is_change(rt, &plan, row, file, How::Halves(2))
-        {
+    match plan_of(rt, lengths, Kind::V2, 16_384, 16) {
+        Ok(plan) => {
+            are_changes(rt, &plan, file, How::One) && are_changes(rt, &plan, file, How::Halves(2))
+        }
+        Err(_) => false,
+    }
+}
+
+fn are_right<R: AllocGlobal + Abort + Threads + Sync>(rt: &R) -> bool {
+    for row in ROWS {
+        if !is_each_right(rt, row) {
             return false;
         }
     }
@@ -175,11 +201,11 @@ fn is_each_change<R: AllocGlobal + Abort + Threads + Sync>(
 }
 
 /// The lengths are asked again when all pieces were read.
+fn hold<R: AllocGlobal + Abort + Threads + Sync>(rt: &R) -> bool {
+    are_right(rt) && is_each_change(rt, &[3, 0], 0) && is_each_change(rt, &[0, 3], 1)
+}
+
 #[test]
 fn hashes_the_pieces_that_are_there_and_tells_of_a_file_that_changes(rt: HostRuntime) {
-    for row in ROWS {
-        assert!(rt; is_each_right(&rt, row));
-    }
-    assert!(rt; is_each_change(&rt, &[3, 0], 0));
-    assert!(rt; is_each_change(&rt, &[0, 3], 1));
+    assert!(rt; hold(&rt));
 }

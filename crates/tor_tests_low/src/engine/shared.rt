@@ -34,19 +34,16 @@ fn list_of(alloc: Global, lengths: &[u64]) -> Result<FileList, AllocError> {
     }
 }
 
-/// A plan of files with these lengths, whose piece length and span are tested first.
-pub(crate) fn plan_of<R: AllocGlobal + Abort>(
+/// A plan of files with these lengths.
+pub(crate) fn plan_of<R: AllocGlobal>(
     rt: &R,
     lengths: &[u64],
     kind: Kind,
     piece_length: u64,
     span: u32,
 ) -> Result<Plan, AllocError> {
-    assert!(rt; piece_length.is_power_of_two());
-    assert!(rt; piece_length >= 16384 && piece_length <= 1 << 30);
-    assert!(rt; span.is_power_of_two() && span >= 1 && span <= 1024);
     let list = list_of(rt.alloc(), lengths)?;
-    Plan::new(rt.alloc(), &list, kind, piece_length, span)
+    shared::plan_of(rt.alloc(), &list, kind, piece_length, span)
 }
 
 fn add_contents(
@@ -114,6 +111,18 @@ pub(crate) fn is_told<F: Debug>(alloc: Global, fault: &EngineError<F>, wanted: &
     is(format!(in alloc; "{fault:?}"), wanted)
 }
 
+/// Whether this was made, if `none` is wanted, or the fault has this text.
+pub(crate) fn is_outcome<T: Drop, F: Debug + Drop>(
+    alloc: Global,
+    made: Result<T, EngineError<F>>,
+    wanted: &str,
+) -> bool {
+    match made {
+        Ok(_) => wanted == "none",
+        Err(fault) => is_told(alloc, &fault, wanted),
+    }
+}
+
 /// Whether the fault of the files has this text; `none` if they have sums.
 pub(crate) fn is_fault<S: Source, R: AllocGlobal + Abort + Threads + Sync>(
     rt: &R,
@@ -122,10 +131,7 @@ pub(crate) fn is_fault<S: Source, R: AllocGlobal + Abort + Threads + Sync>(
     how: How,
     wanted: &str,
 ) -> bool {
-    match hash_by(rt, source, plan, how) {
-        Ok(_) => wanted == "none",
-        Err(fault) => is_told(rt.alloc(), &fault, wanted),
-    }
+    is_outcome(rt.alloc(), hash_by(rt, source, plan, how), wanted)
 }
 
 /// Whether it is, each way to share the units.

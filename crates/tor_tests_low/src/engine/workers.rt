@@ -1,7 +1,7 @@
 //! How many workers read at once. That no more do than were asked for, tests/ways.py sees.
 ghost use Rattle.tor_source.specs.Answers.{any_answers};
 
-use crate::engine::shared::{allowed, comes_to, is_fault, is_told, plan_of};
+use crate::engine::shared::{allowed, comes_to, is_fault, is_outcome, plan_of};
 use std::process::Abort;
 use std::sync::atomic::AtomicU64;
 use std::sync::atomic::Ordering::SeqCst;
@@ -70,10 +70,8 @@ pub(crate) fn is_fault_of_pieces<R: AllocGlobal + Abort + Threads + Sync>(
     how: How,
     wanted: &str,
 ) -> bool {
-    match hash_pieces(rt, rt.alloc(), source, plan, allowed(rt, how)) {
-        Ok(_) => wanted == "none",
-        Err(fault) => is_told(rt.alloc(), &fault, wanted),
-    }
+    let made = hash_pieces(rt, rt.alloc(), source, plan, allowed(rt, how));
+    is_outcome(rt.alloc(), made, wanted)
 }
 
 pub(crate) const ALONE: &str = "Read { file: 0, start: Some(0), fault: Alone }";
@@ -156,6 +154,5 @@ const PIECES_OF_FOUR: Gathering = Gathering {
 
 #[test]
 fn workers_meet(rt: HostRuntime) {
-    assert!(rt; meet(&rt, &OF_FOUR));
-    assert!(rt; meet(&rt, &PIECES_OF_FOUR));
+    assert!(rt; meet(&rt, &OF_FOUR) && meet(&rt, &PIECES_OF_FOUR));
 }

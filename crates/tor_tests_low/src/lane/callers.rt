@@ -3,16 +3,15 @@ ghost use Rattle.tor_lane.specs.Lane.{IsOpen};
 
 use std::process::Abort;
 use std::sync::Wait;
-use std::thread;
+use std::thread::{self, JoinHandle, Scope, Threads};
 use tor_lane::{Chunk, Feeder, Taker, lane};
 
-/// The numbers of the units that a taker takes, until its mark. The list has the room for them.
-fn units_of<R: Wait>(rt: &R, mut taker: Taker, mut units: Vec<u64>) -> Vec<u64> {
+/// The numbers of the units that a taker takes, until its mark.
+fn units_of<R: AllocGlobal + Abort + Wait>(rt: &R, mut taker: Taker) -> Vec<u64> {
+    let mut units = Vec::new(rt.alloc());
     'chunks: for _ in rt.forever() {
         match taker.take(rt) {
-            Some(chunk) => {
-                let _ = units.push(chunk.unit);
-            }
+            Some(chunk) => units.push(chunk.unit).expect(rt, "memory"),
             None => return units,
         }
     }
@@ -41,54 +40,54 @@ fn count_up(units: &[u64]) -> bool {
     true
 }
 
-/// A lane of three workers.
-fn lane_of_three<R: AllocGlobal + Abort>(rt: &R) -> (Feeder, [Taker; 3])
-    ensures { IsOpen result.0 }
-{
-    let (feeder, mut takers) = lane(rt.alloc(), 3).expect(rt, "memory");
-    match (takers.pop(), takers.pop(), takers.pop()) {
-        (Some(one), Some(two), Some(three)) => (feeder, [one, two, three]),
-        _ => panic!(rt; "no three takers"),
+/// A thread for each taker.
+fn take_by_each<'s, E, R: AllocGlobal + Abort + Wait + Sync>(
+    rt: &'s R,
+    scope: &Scope<'s, E>,
+    takers: Vec<Taker>,
+) -> Vec<JoinHandle<Vec<u64>>> {
+    let mut handles = Vec::new(rt.alloc());
+    for taker in takers {
+        let Ok(handle) = scope.spawn(move || units_of(rt, taker)) else {
+            panic!(rt; "no thread")
+        };
+        handles.push(handle).expect(rt, "memory");
     }
+    handles
 }
 
-/// A list with the room for forty numbers.
-fn room<R: AllocGlobal + Abort>(rt: &R) -> Vec<u64> {
-    Vec::with_capacity(rt.alloc(), 40).expect(rt, "memory")
+/// What the threads took, together.
+fn taken<R: AllocGlobal + Abort + Threads>(rt: &R, handles: Vec<JoinHandle<Vec<u64>>>) -> Vec<u64> {
+    let mut units = Vec::new(rt.alloc());
+    for handle in handles {
+        units.extend(handle.join(rt)).expect(rt, "memory");
+    }
+    units
 }
 
-/// Whether three lists have the numbers from 0 to 39, each once.
-fn are_forty<R: AllocGlobal + Abort>(rt: &R, lists: [Vec<u64>; 3]) -> bool {
-    let [mut units, second, third] = lists;
-    units.extend(second).expect(rt, "memory");
-    units.extend(third).expect(rt, "memory");
+/// What three callers take of forty units.
+fn forty_by_three<R: AllocGlobal + Abort + Threads + Wait + Sync>(rt: &R) -> Vec<u64> {
+    let (mut feeder, takers) = lane(rt.alloc(), 3).expect(rt, "memory");
+    thread::scope(
+        thread::scope_env(),
+        rt,
+        |scope| -> Vec<u64>
+            requires { IsOpen feeder }
+        {
+            let handles = take_by_each(rt, scope, takers);
+            put_units(rt, &mut feeder, 40);
+            taken(rt, handles)
+        },
+    )
+}
+
+/// Whether these are the numbers from 0 to 39, each once.
+fn are_forty<R: AllocGlobal + Abort>(rt: &R, mut units: Vec<u64>) -> bool {
     units.sort().expect(rt, "memory");
     units.len() == 40 && count_up(&units)
 }
 
 #[test]
 fn callers_take(rt: HostRuntime) {
-    let (mut feeder, [one, two, three]) = lane_of_three(&rt);
-    let (first, second, third) = (room(&rt), room(&rt), room(&rt));
-    let handle = &rt;
-    let lists = thread::scope(
-        thread::scope_env(),
-        handle,
-        |scope| -> [Vec<u64>; 3]
-            requires { IsOpen feeder }
-        {
-            let Ok(first) = scope.spawn(move || units_of(handle, one, first)) else {
-                panic!(handle; "no thread")
-            };
-            let Ok(second) = scope.spawn(move || units_of(handle, two, second)) else {
-                panic!(handle; "no thread")
-            };
-            let Ok(third) = scope.spawn(move || units_of(handle, three, third)) else {
-                panic!(handle; "no thread")
-            };
-            put_units(handle, &mut feeder, 40);
-            [first.join(handle), second.join(handle), third.join(handle)]
-        },
-    );
-    assert!(rt; are_forty(&rt, lists));
+    assert!(rt; are_forty(&rt, forty_by_three(&rt)));
 }

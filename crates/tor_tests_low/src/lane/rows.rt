@@ -81,31 +81,26 @@ fn is_ended_for_ever<R: AllocGlobal + Abort + Wait>(rt: &R) -> bool {
     gets_none(rt, &mut taker, 100)
 }
 
-/// A lane of two workers.
-fn lane_of_two<R: AllocGlobal + Abort>(rt: &R) -> (Feeder, Taker, Taker)
-    ensures { IsOpen result.0 }
-{
-    let (feeder, mut takers) = lane(rt.alloc(), 2).expect(rt, "memory");
-    match (takers.pop(), takers.pop()) {
-        (Some(one), Some(other)) => (feeder, one, other),
-        _ => panic!(rt; "no two takers"),
-    }
+/// Whether one of two takers gets both chunks, and each is at its own mark then.
+fn takes_both<R: AllocGlobal + Abort + Wait>(rt: &R, one: &mut Taker, other: &mut Taker) -> bool {
+    gives(rt, one, 0, 1, 0)
+        && gives(rt, one, 1, 2, 7)
+        && gets_none(rt, one, 2)
+        && gets_none(rt, other, 1)
 }
 
-/// Whether one of two takers gets both chunks, and each is at its own mark then.
 fn are_at_their_marks<R: AllocGlobal + Abort + Wait>(rt: &R) -> bool {
-    let (mut feeder, mut one, mut other) = lane_of_two(rt);
+    let (mut feeder, mut takers) = lane(rt.alloc(), 2).expect(rt, "memory");
     feeder.put(rt, chunk(rt, 0, 1, 0));
     feeder.put(rt, chunk(rt, 1, 2, 7));
     feeder.end(rt);
-    gives(rt, &mut one, 0, 1, 0)
-        && gives(rt, &mut one, 1, 2, 7)
-        && gets_none(rt, &mut one, 2)
-        && gets_none(rt, &mut other, 1)
+    match takers.as_mut_slice() {
+        [one, other] => takes_both(rt, one, other),
+        _ => false,
+    }
 }
 
 #[test]
 fn an_ended_lane_gives_none_for_ever(rt: HostRuntime) {
-    assert!(rt; is_ended_for_ever(&rt));
-    assert!(rt; are_at_their_marks(&rt));
+    assert!(rt; is_ended_for_ever(&rt) && are_at_their_marks(&rt));
 }

@@ -77,10 +77,13 @@ fn agree_over(alloc: Global, bytes: &[u8], piece_length: u64, parts: &[usize]) -
     }
 }
 
+// The length of a content, that of a piece, and those of the parts.
+type Row = (usize, u64, &'static [usize]);
+
 // Whether they do of a content.
-fn agree(alloc: Global, length: usize, piece_length: u64, parts: &[usize]) -> bool {
-    match content(alloc, length) {
-        Ok(bytes) => agree_over(alloc, &bytes, piece_length, parts),
+fn agree(alloc: Global, row: &Row) -> bool {
+    match content(alloc, row.0) {
+        Ok(bytes) => agree_over(alloc, &bytes, row.1, row.2),
         Err(_) => false,
     }
 }
@@ -88,8 +91,7 @@ fn agree(alloc: Global, length: usize, piece_length: u64, parts: &[usize]) -> bo
 // At one time, in parts of six blocks and some bytes, and as an end.
 const EACH: &[usize] = &[1 << 20, 100_000, 0];
 
-// The length of a content, that of a piece, and those of the parts.
-const ROWS: &[(usize, u64, &[usize])] = &[
+const ROWS: &[Row] = &[
     (0, 16_384, &[1]),
     (1, 16_384, &[1]),
     (3, 16_384, EACH),
@@ -128,7 +130,7 @@ const ROWS: &[(usize, u64, &[usize])] = &[
 
 #[test]
 fn feeds_in_parts_and_in_runs_what_lies_in_memory(rt: HostRuntime) {
-    for (length, piece_length, parts) in ROWS {
-        assert!(rt; agree(rt.alloc(), *length, *piece_length, parts));
+    for row in ROWS {
+        assert!(rt; agree(rt.alloc(), row));
     }
 }

@@ -54,7 +54,9 @@ fn proves_none(alloc: Global) -> bool {
 }
 
 // Size, the length of a piece, how many hashes, and their level.
-const COUNTS: &[(u64, u64, u64, u32)] = &[
+type Count = (u64, u64, u64, u32);
+
+const COUNTS: &[Count] = &[
     (0, 16_384, 1, 0),
     (1, 16_384, 1, 0),
     (16_384, 16_384, 1, 0),
@@ -68,20 +70,30 @@ const COUNTS: &[(u64, u64, u64, u32)] = &[
 ];
 
 // Whether count and level of the hashes of a file are these.
-fn is_counted(size: u64, piece_length: u64, count: u64, level: u32) -> bool {
+fn is_counted(row: &Count) -> bool {
+    let (size, piece_length, count, level) = *row;
     if !is_piece_length(piece_length) || size > 1 << 50 {
         return false;
     }
     proof_count(size, piece_length) == count && proof_level(size, piece_length) == level
 }
 
+fn are_counted() -> bool {
+    for row in COUNTS {
+        if !is_counted(row) {
+            return false;
+        }
+    }
+    true
+}
+
+fn has_no_proof<R: AllocGlobal + Abort>(rt: &R) -> bool {
+    matches!(proof_of(rt, &[], 0), Err(ProveError::Index))
+}
+
 #[test]
 fn counts_hashes_and_proves_none_where_there_is_none(rt: HostRuntime) {
     proofs_are_low();
-    for (size, piece_length, count, level) in COUNTS {
-        assert!(rt; is_counted(*size, *piece_length, *count, *level));
-    }
-    assert!(rt; matches!(proof_of(&rt, &[], 0), Err(ProveError::Index)));
-    assert!(rt; proves_none(rt.alloc()));
-    assert!(rt; collides_in_its_parent(&rt));
+    assert!(rt; are_counted() && has_no_proof(&rt));
+    assert!(rt; proves_none(rt.alloc()) && collides_in_its_parent(&rt));
 }

@@ -1,70 +1,73 @@
 //! Rows of entries, worked out by hand.
-ghost use Rattle.std.specs.Prelude.{◌≡◌, false, IfOk};
+ghost use Rattle.std.specs.Prelude.{◌≡◌, false};
+ghost use Rattle.tor_v1.specs.Entries.{pad_entry};
 
-use crate::plan::plans::is_plan;
+use crate::plan::plans::is_made;
 use crate::shared::path;
-use std::alloc::{AllocError, Global};
+use std::alloc::AllocError;
+use std::process::Abort;
 use tor_plan::Plan;
 use tor_tree::Kind;
-use tor_v1::{Entry, pad_entry};
+use tor_v1::{self, Entry};
 
 /// The entry of a file in the top folder.
-fn file_entry(alloc: Global, name: &str, length: u64) -> Result<Entry, AllocError>
-    ensures { IfOk result (λ entry. (entry.length ≡ length) × (entry.pad ≡ false)
-        × (entry.exec ≡ false) × (entry.hidden ≡ false)) }
+fn file_entry<R: AllocGlobal + Abort>(rt: &R, name: &str, length: u64) -> Entry
+    ensures { (result.length ≡ length) × (result.pad ≡ false) × (result.exec ≡ false) × (result.hidden ≡ false) }
 {
-    Ok(Entry {
-        path: path(alloc, name)?,
+    Entry {
+        path: path(rt.alloc(), name).expect(rt, "memory"),
         length,
         pad: false,
         exec: false,
         hidden: false,
-    })
+    }
+}
+
+/// The entry of padding.
+fn padding<R: AllocGlobal + Abort>(rt: &R, length: u64) -> Entry
+    ensures { result ≡ pad_entry length }
+{
+    tor_v1::pad_entry(rt.alloc(), length).expect(rt, "memory")
 }
 
 /// Padding first, and over a whole unit; the second file is empty.
-fn joined_plan(alloc: Global) -> Result<Plan, AllocError> {
-    let entries = vec![in alloc;
-        pad_entry(alloc, 3)?,
-        file_entry(alloc, "a", 2)?,
-        file_entry(alloc, "b", 0)?,
-        pad_entry(alloc, 9)?,
-        file_entry(alloc, "c", 1)?,
+fn joined_plan<R: AllocGlobal + Abort>(rt: &R) -> Result<Plan, AllocError> {
+    let entries = vec![in rt.alloc();
+        padding(rt, 3),
+        file_entry(rt, "a", 2),
+        file_entry(rt, "b", 0),
+        padding(rt, 9),
+        file_entry(rt, "c", 1),
     ]?;
-    Plan::of_entries(alloc, &entries, Kind::V1, 4, 1)
+    Plan::of_entries(rt.alloc(), &entries, Kind::V1, 4, 1)
 }
 
 const JOINED: &str = "[=3 0:0+1 ][ 0:1+1=3 ][=4 ][=2 2:0+1 ]";
 
-fn are_joined(alloc: Global) -> bool {
-    match joined_plan(alloc) {
-        Ok(plan) => { is_plan(alloc, &plan, JOINED, "") && plan.lengths() == [2, 0, 1].as_slice() }
-        Err(_) => false,
-    }
-}
-
 /// Padding after the last file too.
-fn hybrid_plan(alloc: Global) -> Result<Plan, AllocError> {
-    let entries = vec![in alloc;
-        file_entry(alloc, "a", 40000)?,
-        file_entry(alloc, "b", 0)?,
-        pad_entry(alloc, 9152)?,
-        file_entry(alloc, "c", 5)?,
-        pad_entry(alloc, 16379)?,
+fn hybrid_plan<R: AllocGlobal + Abort>(rt: &R) -> Result<Plan, AllocError> {
+    let entries = vec![in rt.alloc();
+        file_entry(rt, "a", 40000),
+        file_entry(rt, "b", 0),
+        padding(rt, 9152),
+        file_entry(rt, "c", 5),
+        padding(rt, 16379),
     ]?;
-    Plan::of_entries(alloc, &entries, Kind::Hybrid, 16384, 2)
+    Plan::of_entries(rt.alloc(), &entries, Kind::Hybrid, 16384, 2)
 }
 
 const HYBRID: &str = "[ 0:0+32768 ][ 0:32768+7232=9152 ][ 2:0+5=16379 ]";
 
-fn are_cut(alloc: Global) -> bool {
-    match hybrid_plan(alloc) {
-        Ok(plan) => is_plan(alloc, &plan, HYBRID, "0+2^1 "),
-        Err(_) => false,
-    }
-}
-
 #[test]
 fn cuts_entries_with_padding_between_them_and_at_the_end(rt: HostRuntime) {
-    assert!(rt; are_joined(rt.alloc()) && are_cut(rt.alloc()));
+    assert!(rt; is_made(rt.alloc(), joined_plan(&rt), JOINED, "", &[2, 0, 1]));
+    assert!(rt;
+        is_made(
+            rt.alloc(),
+            hybrid_plan(&rt),
+            HYBRID,
+            "0+2^1 ",
+            &[40000, 0, 5]
+        )
+    );
 }

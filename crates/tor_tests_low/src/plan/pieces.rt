@@ -46,7 +46,9 @@ fn pieces_text(alloc: Global, unit: &PlanUnit) -> Result<String, AllocError> {
 }
 
 /// The zeros before the parts of a unit, the parts, and the pieces.
-const ROWS: &[(u64, Numbers, &str)] = &[
+type Row = (u64, Numbers, &'static str);
+
+const ROWS: &[Row] = &[
     (9, &[(3, 10, 5, 0)], "[=4 ][=4 ][=1 3:10+3 ][ 3:13+2 ]"),
     (0, &[(7, 5, 2, 0), (8, 0, 3, 0)], "[ 7:5+2 8:0+2 ][ 8:2+1 ]"),
     (
@@ -57,19 +59,22 @@ const ROWS: &[(u64, Numbers, &str)] = &[
     (0, &[], ""),
 ];
 
-fn has_pieces(alloc: Global, zeros: u64, numbers: Numbers, wanted: &str) -> bool {
-    match parts_of(alloc, numbers) {
-        Ok(parts) => {
-            let parts = Parts::new(parts);
-            is(pieces_text(alloc, &PlanUnit { zeros, parts }), wanted)
-        }
+/// Whether a unit of these parts has the pieces of a row.
+fn is_row(alloc: Global, parts: Vec<Part>, row: &Row) -> bool {
+    let (zeros, parts) = (row.0, Parts::new(parts));
+    is(pieces_text(alloc, &PlanUnit { zeros, parts }), row.2)
+}
+
+fn has_pieces(alloc: Global, row: &Row) -> bool {
+    match parts_of(alloc, row.1) {
+        Ok(parts) => is_row(alloc, parts, row),
         Err(_) => false,
     }
 }
 
 #[test]
 fn cuts_units_into_pieces(rt: HostRuntime) {
-    for (zeros, numbers, wanted) in ROWS {
-        assert!(rt; has_pieces(rt.alloc(), *zeros, numbers, wanted));
+    for row in ROWS {
+        assert!(rt; has_pieces(rt.alloc(), row));
     }
 }

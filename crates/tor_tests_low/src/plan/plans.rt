@@ -1,27 +1,10 @@
 //! Units of work for lists of files, worked out by hand.
 
-use crate::shared::{Files, is, list_of, thousand_files};
+use crate::shared::{Files, is, list_of, plan_of, thousand_files};
 use std::alloc::{AllocError, Global};
 use std::fmt::Write;
 use tor_plan::{Forest, Part, Plan, PlanUnit};
 use tor_tree::{FileList, Kind};
-
-/// A plan, if its piece length and span are allowed.
-fn plan_of(
-    alloc: Global,
-    list: &FileList,
-    kind: Kind,
-    piece_length: u64,
-    span: u32,
-) -> Result<Plan, AllocError> {
-    if !piece_length.is_power_of_two() || piece_length < 16384 || piece_length > 1 << 30 {
-        return Err(AllocError);
-    }
-    if !span.is_power_of_two() || span < 1 || span > 1024 {
-        return Err(AllocError);
-    }
-    Plan::new(alloc, list, kind, piece_length, span)
-}
 
 /// A plan of joined files, whose pieces may have any length.
 fn joined_plan_of(
@@ -42,20 +25,23 @@ fn joined_plan_of(
 /// A unit's part as file, start and length, and zeros with an equals sign.
 fn push_part(text: &mut String, part: &Part) -> Result<(), AllocError> {
     let (file, start, length, zeros) = (part.file, part.start, part.length, part.zeros);
-    write!(text, " {file}:{start}+{length}")?;
-    if zeros > 0 {
-        write!(text, "={zeros}")?;
+    match zeros {
+        0 => write!(text, " {file}:{start}+{length}"),
+        _ => write!(text, " {file}:{start}+{length}={zeros}"),
     }
-    Ok(())
 }
 
-/// A unit in brackets: its zeros with an equals sign, and its parts.
-fn push_unit(text: &mut String, unit: &PlanUnit) -> Result<(), AllocError> {
-    text.push('[')?;
-    let zeros = unit.zeros;
-    if zeros > 0 {
-        write!(text, "={zeros}")?;
+/// A unit's bracket, and its zeros with an equals sign.
+fn push_front(text: &mut String, zeros: u64) -> Result<(), AllocError> {
+    match zeros {
+        0 => text.push('['),
+        _ => write!(text, "[={zeros}"),
     }
+}
+
+/// A unit in brackets: its zeros, and its parts.
+fn push_unit(text: &mut String, unit: &PlanUnit) -> Result<(), AllocError> {
+    push_front(text, unit.zeros)?;
     for part in unit.parts.as_slice() {
         push_part(text, part)?;
     }
@@ -98,6 +84,20 @@ pub(crate) fn is_plan(alloc: Global, plan: &Plan, units: &str, trees: &str) -> b
     is(units_text(alloc, plan.units()), units) && is(trees_text(alloc, plan.forest()), trees)
 }
 
+/// Whether there is a plan, and these are its units, its trees, and the lengths of its files.
+pub(crate) fn is_made(
+    alloc: Global,
+    made: Result<Plan, AllocError>,
+    units: &str,
+    trees: &str,
+    lengths: &[u64],
+) -> bool {
+    match made {
+        Ok(plan) => is_plan(alloc, &plan, units, trees) && plan.lengths() == lengths,
+        Err(_) => false,
+    }
+}
+
 /// The plan of files.
 fn plan_of_files(
     alloc: Global,
@@ -110,16 +110,30 @@ fn plan_of_files(
     plan_of(alloc, &list, kind, piece_length, span)
 }
 
-fn is_cut(alloc: Global, files: Files, kind: Kind, span: u32, units: &str, trees: &str) -> bool {
-    match plan_of_files(alloc, files, kind, 16384, span) {
-        Ok(plan) => {
-            plan.kind() == kind
-                && plan.piece_length() == 16384
-                && plan.lengths().len() == files.len()
-                && is_plan(alloc, &plan, units, trees)
-        }
+/// Files, kind and span; the units and the trees.
+type Cut = (Files, Kind, u32, &'static str, &'static str);
+
+fn is_plan_of_row(alloc: Global, plan: &Plan, row: &Cut) -> bool {
+    plan.kind() == row.1
+        && plan.piece_length() == 16384
+        && plan.lengths().len() == row.0.len()
+        && is_plan(alloc, plan, row.3, row.4)
+}
+
+fn is_cut(alloc: Global, row: &Cut) -> bool {
+    match plan_of_files(alloc, row.0, row.1, 16384, row.2) {
+        Ok(plan) => is_plan_of_row(alloc, &plan, row),
         Err(_) => false,
     }
+}
+
+fn are_cut(alloc: Global) -> bool {
+    for row in CUTS {
+        if !is_cut(alloc, row) {
+            return false;
+        }
+    }
+    true
 }
 
 /// Files of four bytes, of none and of five.
@@ -131,10 +145,7 @@ fn joined_files(alloc: Global) -> Result<Plan, AllocError> {
 const JOINED: &str = "[ 0:0+3 ][ 0:3+1 2:0+2 ][ 2:2+3 ]";
 
 fn are_joined(alloc: Global) -> bool {
-    match joined_files(alloc) {
-        Ok(plan) => { is_plan(alloc, &plan, JOINED, "") && plan.lengths() == [4, 0, 5].as_slice() }
-        Err(_) => false,
-    }
+    is_made(alloc, joined_files(alloc), JOINED, "", &[4, 0, 5])
 }
 
 /// The kind, and how many units and trees: the counts are those of a sum by another program.
@@ -173,105 +184,86 @@ fn is_longest(alloc: Global, kind: Kind, trees: &str) -> bool {
     }
 }
 
-/// What is to hold.
-enum Case {
-    /// Files, kind and span; the units and the trees.
-    Cut(Files, Kind, u32, &'static str, &'static str),
-    Joined,
-    Counted,
-    /// The kind, and the trees of the longest file.
-    Longest(Kind, &'static str),
-}
-
-const CASES: &[Case] = &[
-    Case::Cut(
+const CUTS: &[Cut] = &[
+    (
         THREE,
         Kind::V2,
         1,
         "[ 0:0+16384 ][ 0:16384+16384 ][ 0:32768+7232 ][ 2:0+16384 ]",
         "0+3^0 ",
     ),
-    Case::Cut(
+    (
         THREE,
         Kind::V2,
         2,
         "[ 0:0+32768 ][ 0:32768+7232 ][ 2:0+16384 ]",
         "0+2^1 ",
     ),
-    Case::Cut(THREE, Kind::V2, 4, "[ 0:0+40000 ][ 2:0+16384 ]", ""),
-    Case::Cut(
+    (THREE, Kind::V2, 4, "[ 0:0+40000 ][ 2:0+16384 ]", ""),
+    (
         THREE,
         Kind::Hybrid,
         1,
         "[ 0:0+16384 ][ 0:16384+16384 ][ 0:32768+7232=9152 ][ 2:0+16384 ]",
         "0+3^0 ",
     ),
-    Case::Cut(
+    (
         THREE,
         Kind::Hybrid,
         2,
         "[ 0:0+32768 ][ 0:32768+7232=9152 ][ 2:0+16384 ]",
         "0+2^1 ",
     ),
-    Case::Cut(
+    (
         THREE,
         Kind::V1,
         1,
         "[ 0:0+16384 ][ 0:16384+16384 ][ 0:32768+7232 2:0+9152 ][ 2:9152+7232 ]",
         "",
     ),
-    Case::Cut(
+    (
         THREE,
         Kind::V1,
         2,
         "[ 0:0+32768 ][ 0:32768+7232 2:0+16384 ]",
         "",
     ),
-    Case::Cut(&[("a", 16384)], Kind::V2, 1, "[ 0:0+16384 ]", ""),
-    Case::Cut(
+    (&[("a", 16384)], Kind::V2, 1, "[ 0:0+16384 ]", ""),
+    (
         &[("a", 16385)],
         Kind::V2,
         1,
         "[ 0:0+16384 ][ 0:16384+1 ]",
         "0+2^0 ",
     ),
-    Case::Cut(&[("a", 0), ("b", 0)], Kind::Hybrid, 1, "", ""),
-    Case::Cut(&[("a", 0), ("b", 0)], Kind::V1, 1, "", ""),
-    Case::Cut(&[("a", 5), ("b", 0)], Kind::Hybrid, 1, "[ 0:0+5 ]", ""),
-    Case::Cut(
+    (&[("a", 0), ("b", 0)], Kind::Hybrid, 1, "", ""),
+    (&[("a", 0), ("b", 0)], Kind::V1, 1, "", ""),
+    (&[("a", 5), ("b", 0)], Kind::Hybrid, 1, "[ 0:0+5 ]", ""),
+    (
         &[("a", 5), ("b", 7), ("c", 16384), ("d", 1)],
         Kind::V1,
         1,
         "[ 0:0+5 1:0+7 2:0+16372 ][ 2:16372+12 3:0+1 ]",
         "",
     ),
-    Case::Cut(
+    (
         &[("a", 16385), ("b", 32769)],
         Kind::Hybrid,
         1,
         "[ 0:0+16384 ][ 0:16384+1=16383 ][ 1:0+16384 ][ 1:16384+16384 ][ 1:32768+1 ]",
         "0+2^0 2+3^0 ",
     ),
-    Case::Joined,
-    Case::Counted,
-    Case::Longest(Kind::V2, "0+1024^26 "),
-    Case::Longest(Kind::V1, ""),
 ];
 
-fn holds(alloc: Global, case: &Case) -> bool {
-    match case {
-        Case::Cut(files, kind, span, units, trees) => {
-            is_cut(alloc, files, *kind, *span, units, trees)
-        }
-        Case::Joined => are_joined(alloc),
-        Case::Counted => has_each_counts(alloc),
-        Case::Longest(kind, trees) => is_longest(alloc, *kind, trees),
-    }
+fn all_are_cut(alloc: Global) -> bool {
+    are_cut(alloc)
+        && are_joined(alloc)
+        && has_each_counts(alloc)
+        && is_longest(alloc, Kind::V2, "0+1024^26 ")
+        && is_longest(alloc, Kind::V1, "")
 }
 
 #[test]
 fn cuts_files_by_kind_and_span(rt: HostRuntime) {
-    for case in CASES {
-        assert!(rt; holds(rt.alloc(), case));
-    }
+    assert!(rt; all_are_cut(rt.alloc()));
 }

@@ -31,24 +31,33 @@ fn extra_of(alloc: Global, known: &[&str]) -> Result<Vec<Vec<u8>>, AllocError> {
     )
 }
 
+fn is_path_at(paths: &[Vec<u8>], index: usize, text: &[u8]) -> bool {
+    match paths.get(index) {
+        Some(path) => path.as_slice() == text,
+        None => false,
+    }
+}
+
 fn are_paths(paths: &[Vec<u8>], wanted: &[&[u8]]) -> bool {
-    for (path, text) in paths.iter().zip(wanted) {
-        if path.as_slice() != *text {
+    for (index, text) in wanted.iter().enumerate() {
+        if !is_path_at(paths, index, text) {
             return false;
         }
     }
     paths.len() == wanted.len()
 }
 
-fn is_extra(alloc: Global, known: &[&str], wanted: &[&[u8]]) -> bool {
-    match extra_of(alloc, known) {
-        Ok(extra) => are_paths(&extra, wanted),
+// The files that are known, and the paths beside them.
+type Row = (&'static [&'static str], &'static [&'static [u8]]);
+
+fn is_extra(alloc: Global, row: &Row) -> bool {
+    match extra_of(alloc, row.0) {
+        Ok(extra) => are_paths(&extra, row.1),
         Err(_) => false,
     }
 }
 
-// The files that are known, and the paths beside them.
-const ROWS: &[(&[&str], &[&[u8]])] = &[
+const ROWS: &[Row] = &[
     (&[], &[b".pads", b"a", b"b", b"d.e", b"d/c", b"l", b"m"]),
     (&["l", "d/c", "n", "a"], &[b".pads", b"b", b"d.e", b"m"]),
     (
@@ -60,7 +69,7 @@ const ROWS: &[(&[&str], &[&[u8]])] = &[
 
 #[test]
 fn tells_what_is_none_of_the_files(rt: HostRuntime) {
-    for (known, wanted) in ROWS {
-        assert!(rt; is_extra(rt.alloc(), known, wanted));
+    for row in ROWS {
+        assert!(rt; is_extra(rt.alloc(), row));
     }
 }

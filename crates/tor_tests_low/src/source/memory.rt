@@ -130,9 +130,11 @@ fn are_short_reads_right(alloc: Global) -> bool {
     }
 }
 
+fn are_all_right(alloc: Global) -> bool {
+    is_memory_right(alloc) && are_faults_right(alloc) && are_short_reads_right(alloc)
+}
+
 #[test]
 fn memory_gives_what_is_there(rt: HostRuntime) {
-    assert!(rt; is_memory_right(rt.alloc()));
-    assert!(rt; are_faults_right(rt.alloc()));
-    assert!(rt; are_short_reads_right(rt.alloc()));
+    assert!(rt; are_all_right(rt.alloc()));
 }

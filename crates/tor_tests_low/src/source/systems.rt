@@ -1,5 +1,5 @@
 //! Scans of a system that has what no test can make.
-use crate::shared::is;
+use crate::shared::{are, is_shown};
 use std::alloc::{AllocError, Allocator, Global};
 use std::fs::{File, Metadata, OpenOptions};
 use std::io;
@@ -121,25 +121,20 @@ fn shown(alloc: Global, paths: &[FilePath]) -> Result<Vec<u8>, AllocError> {
     Ok(text)
 }
 
-fn is_shown(alloc: Global, paths: &[FilePath], wanted: &[u8]) -> bool {
-    match shown(alloc, paths) {
-        Ok(text) => text.as_slice() == wanted,
-        Err(_) => false,
-    }
-}
-
 // Whether a scan of this path finds the paths that are shown so, or has the fault that is told so.
 fn is_scan(system: &Listed, path: &str, wanted: &str) -> bool {
     let alloc = system.alloc();
     match FolderSource::scan(system, alloc, path) {
-        Ok((_source, paths)) => is_shown(alloc, &paths, wanted.as_bytes()),
-        Err(fault) => is(format!(in alloc; "{fault}"), wanted),
+        Ok((_source, paths)) => are(shown(alloc, &paths), wanted.as_bytes()),
+        Err(fault) => is_shown(alloc, &fault, wanted),
     }
 }
 
-// A place, the names in `top`, whether their listing breaks off, and what a scan of the place finds. This system would
-// tell of a FIFO at the empty place, were it asked.
-const SCANS: &[(&str, &[u8], bool, &str)] = &[
+// A place, the names in `top`, whether their listing breaks off, and what a scan of the place finds.
+type Row = (&'static str, &'static [u8], bool, &'static str);
+
+// This system would tell of a FIFO at the empty place, were it asked.
+const SCANS: &[Row] = &[
     ("top", b"\xff\0a file\0", false, "F1 NotUtf8"),
     ("top", b"\xff\0fifo\0", false, "F2 NotRegular"),
     ("top", b"fifo\0a locked\0", false, "F4 System"),
@@ -164,16 +159,16 @@ const SCANS: &[(&str, &[u8], bool, &str)] = &[
 ];
 
 // Whether that is so where `top` has these names.
-fn gives(rt: &HostRuntime, path: &str, names: &[u8], breaks: bool, wanted: &str) -> bool {
-    match system_of(rt, names, breaks) {
-        Ok(system) => is_scan(&system, path, wanted),
+fn gives(rt: &HostRuntime, row: &Row) -> bool {
+    match system_of(rt, row.1, row.2) {
+        Ok(system) => is_scan(&system, row.0, row.3),
         Err(_) => false,
     }
 }
 
 #[test]
 fn answers_the_first_fault_in_the_order_of_names(rt: HostRuntime) {
-    for (place, names, breaks, wanted) in SCANS {
-        assert!(rt; gives(&rt, place, names, *breaks, wanted));
+    for row in SCANS {
+        assert!(rt; gives(&rt, row));
     }
 }

@@ -59,10 +59,12 @@ fn allowed<R: Abort>(rt: &R, way: Way) -> Way
         workers,
         ..
     } = way;
-    assert!(rt; piece_length.is_power_of_two());
-    assert!(rt; piece_length >= 16384 && piece_length <= 1 << 30);
-    assert!(rt; span.is_power_of_two() && span >= 1 && span <= 1024);
-    assert!(rt; span as u64 * piece_length <= 1 << 30);
+    if !piece_length.is_power_of_two() || piece_length < 16384 || piece_length > 1 << 30 {
+        panic!(rt; "the length of a piece");
+    }
+    if !span.is_power_of_two() || span < 1 || span > 1024 || span as u64 * piece_length > 1 << 30 {
+        panic!(rt; "the span");
+    }
     assert!(rt; workers >= 1 && workers <= 64);
     way
 }
@@ -181,17 +183,26 @@ fn has_no_sum<R: AllocGlobal + Abort + Threads + Wait + Sync>(
 
 const WORKERS: &[u32] = &[1, 2, 64];
 
+/// Two meet. One meets nobody: its first unit waits in vain; once the second is begun, two have been.
+fn meet_or_miss<R: AllocGlobal + Abort + Threads + Wait + Sync>(rt: &R) -> bool {
+    meet(rt, 2, 10_000_000, 0) && meet(rt, 1, 1000, 1)
+}
+
 #[test]
 fn streams_meet(rt: HostRuntime) {
-    assert!(rt; meet(&rt, 2, 10_000_000, 0));
-    // One meets nobody: its first unit waits in vain; once the second is begun, two have been.
-    assert!(rt; meet(&rt, 1, 1000, 1));
+    assert!(rt; meet_or_miss(&rt));
+}
+
+fn have_no_sum<R: AllocGlobal + Abort + Threads + Wait + Sync>(rt: &R) -> bool {
+    for workers in WORKERS {
+        if !has_no_sum(rt, *workers, false) || !has_no_sum(rt, *workers, true) {
+            return false;
+        }
+    }
+    true
 }
 
 #[test]
 fn no_reader_has_no_sum(rt: HostRuntime) {
-    for workers in WORKERS {
-        assert!(rt; has_no_sum(&rt, *workers, false));
-        assert!(rt; has_no_sum(&rt, *workers, true));
-    }
+    assert!(rt; have_no_sum(&rt));
 }

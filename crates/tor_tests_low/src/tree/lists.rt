@@ -1,6 +1,6 @@
 //! Lists of files and of paths as no word of the program hands them in: with letters, and in any order. Other lists,
 //! and why there is none, are those that `tor make` tells (tests/paths.py).
-use crate::shared::{self, Files, is, path, paths_of};
+use crate::shared::{self, Files, is_path, is_refusal, path, paths_of};
 use std::alloc::{AllocError, Global};
 use tor_merkle::MAX_LENGTH;
 use tor_tree::{Attr, FileList, FilePath, ListError, PathList};
@@ -48,10 +48,7 @@ fn is_row(alloc: Global, list: &FileList, index: usize, row: &Row) -> bool {
         return false;
     }
     let (file, length) = &list.files()[index];
-    match path(alloc, row.0) {
-        Ok(path) => *file == path && *length == row.1 && list.attr(index) == row.2,
-        Err(_) => false,
-    }
+    is_path(alloc, file, row.0) && *length == row.1 && list.attr(index) == row.2
 }
 
 fn are_rows(alloc: Global, list: &FileList, rows: &[Row]) -> bool {
@@ -104,6 +101,15 @@ fn is_sorted(alloc: Global, rows: &[Row], sorted: &[Row]) -> bool {
     }
 }
 
+fn are_sorted(alloc: Global) -> bool {
+    for row in SORTED {
+        if !is_sorted(alloc, row.0, row.1) {
+            return false;
+        }
+    }
+    true
+}
+
 // Files with letters, and why they are no list.
 const REFUSED: &[(&[Row], &str)] = &[
     (&[], "L4 NoFiles"),
@@ -138,11 +144,13 @@ const REFUSED: &[(&[Row], &str)] = &[
     ),
 ];
 
-fn is_refused(alloc: Global, rows: &[Row], wanted: &str) -> bool {
-    match list_of(alloc, rows) {
-        Ok(_) => false,
-        Err(fault) => is(format!(in alloc; "{fault}"), wanted),
+fn are_refused(alloc: Global) -> bool {
+    for row in REFUSED {
+        if !is_refusal(alloc, list_of(alloc, row.0), row.1) {
+            return false;
+        }
     }
+    true
 }
 
 // Two orders of the same files.
@@ -160,6 +168,15 @@ fn is_in_order(alloc: Global, files: Files) -> bool {
     }
 }
 
+fn are_in_order(alloc: Global) -> bool {
+    for files in ORDERS {
+        if !is_in_order(alloc, files) {
+            return false;
+        }
+    }
+    true
+}
+
 // A list of the paths `b`, `a-b` and `a/c`.
 fn three(alloc: Global) -> Result<PathList, ListError> {
     PathList::build(alloc, paths_of(alloc, &["b", "a-b", "a/c"])?)
@@ -167,10 +184,7 @@ fn three(alloc: Global) -> Result<PathList, ListError> {
 
 // Whether an entry is this path, handed in at this index.
 fn is_entry(alloc: Global, entry: &(FilePath, usize), text: &str, index: usize) -> bool {
-    match path(alloc, text) {
-        Ok(path) => entry.0 == path && entry.1 == index,
-        Err(_) => false,
-    }
+    is_path(alloc, &entry.0, text) && entry.1 == index
 }
 
 fn are_entries(alloc: Global, list: &PathList) -> bool {
@@ -184,15 +198,18 @@ fn are_entries(alloc: Global, list: &PathList) -> bool {
     }
 }
 
-// Whether the list of three takes these lengths: the files, and where each was handed in.
+// Whether these are the files of the list of three with lengths, and where each was handed in.
+fn are_longer(alloc: Global, files: &FileList, indices: &[usize]) -> bool {
+    indices == [2, 1, 0].as_slice() && are_rows(alloc, files, LONGER)
+}
+
+// Whether the list of three takes these lengths.
 fn takes_lengths(alloc: Global, list: PathList) -> bool {
     if list.entries().len() != 3 {
         return false;
     }
     match list.with_lengths(alloc, &[7, 0, 5]) {
-        Ok((files, indices)) => {
-            indices.as_slice() == [2, 1, 0].as_slice() && are_rows(alloc, &files, LONGER)
-        }
+        Ok((files, indices)) => are_longer(alloc, &files, &indices),
         Err(_) => false,
     }
 }
@@ -207,16 +224,11 @@ fn are_paths_kept(alloc: Global) -> bool {
     }
 }
 
+fn hold(alloc: Global) -> bool {
+    are_sorted(alloc) && are_refused(alloc) && are_in_order(alloc) && are_paths_kept(alloc)
+}
+
 #[test]
 fn lists_are_in_order_or_their_first_fault_is_told(rt: HostRuntime) {
-    for (rows, sorted) in SORTED {
-        assert!(rt; is_sorted(rt.alloc(), rows, sorted));
-    }
-    for (rows, wanted) in REFUSED {
-        assert!(rt; is_refused(rt.alloc(), rows, wanted));
-    }
-    for files in ORDERS {
-        assert!(rt; is_in_order(rt.alloc(), files));
-    }
-    assert!(rt; are_paths_kept(rt.alloc()));
+    assert!(rt; hold(rt.alloc()));
 }

@@ -1,5 +1,5 @@
 //! Names and paths. Other names, and faults of names, are those that `tor make` tells (tests/paths.py).
-use crate::shared::{is, path};
+use crate::shared::{is_equal, is_refusal, is_shown, path};
 use std::alloc::{AllocError, Global};
 use tor_tree::{FilePath, ListError, Name, NameError, TreeFault, copy_names};
 
@@ -11,18 +11,13 @@ const REFUSED: &[(&[u8], &str)] = &[
     (b"\xff\0", "N5 Nul"),
 ];
 
-fn is_refused(alloc: Global, bytes: &[u8], wanted: &str) -> bool {
-    match Name::new(alloc, bytes) {
-        Ok(_) => false,
-        Err(fault) => is(format!(in alloc; "{fault}"), wanted),
+fn are_refused(alloc: Global) -> bool {
+    for row in REFUSED {
+        if !is_refusal(alloc, Name::new(alloc, row.0), row.1) {
+            return false;
+        }
     }
-}
-
-fn is_copy(alloc: Global, path: &FilePath) -> bool {
-    match path.copy(alloc) {
-        Ok(copy) => copy == *path,
-        Err(_) => false,
-    }
+    true
 }
 
 // Paths of which each comes before the one beside it.
@@ -34,35 +29,48 @@ const ORDERED: &[(&str, &str)] = &[
     ("A", "a"),
 ];
 
-fn comes_first(alloc: Global, low: &str, high: &str) -> Result<bool, AllocError> {
-    let low = path(alloc, low)?;
-    let high = path(alloc, high)?;
-    Ok(low < high && high != low && is_copy(alloc, &low))
+fn comes_first(alloc: Global, row: &(&str, &str)) -> Result<bool, AllocError> {
+    let low = path(alloc, row.0)?;
+    let high = path(alloc, row.1)?;
+    Ok(low < high && high != low && is_equal(low.copy(alloc), &low))
+}
+
+fn are_ordered(alloc: Global) -> bool {
+    for row in ORDERED {
+        if !matches!(comes_first(alloc, row), Ok(true)) {
+            return false;
+        }
+    }
+    true
 }
 
 // Whether a copy of the names of `a/c` has two.
-fn has_two_names(alloc: Global) -> Result<bool, AllocError> {
-    let path = path(alloc, "a/c")?;
-    Ok(copy_names(alloc, path.names())?.len() == 2)
+fn has_two_names(alloc: Global) -> bool {
+    match path(alloc, "a/c") {
+        Ok(path) => matches!(copy_names(alloc, path.names()), Ok(names) if names.len() == 2),
+        Err(_) => false,
+    }
 }
 
 fn is_want_of_memory_told(alloc: Global) -> bool {
-    let (name, list) = (NameError::from(AllocError), ListError::from(AllocError));
-    let tree = TreeFault::from(AllocError);
-    is(format!(in alloc; "{name}"), "out of memory")
-        && is(format!(in alloc; "{list}"), "out of memory")
-        && is(format!(in alloc; "{tree}"), "out of memory")
+    is_shown(alloc, &NameError::from(AllocError), "out of memory")
+        && is_shown(alloc, &ListError::from(AllocError), "out of memory")
+        && is_shown(alloc, &TreeFault::from(AllocError), "out of memory")
+}
+
+fn is_no_path(alloc: Global) -> bool {
+    FilePath::new(Vec::new(alloc)).is_none()
+}
+
+fn hold(alloc: Global) -> bool {
+    are_refused(alloc)
+        && are_ordered(alloc)
+        && has_two_names(alloc)
+        && is_no_path(alloc)
+        && is_want_of_memory_told(alloc)
 }
 
 #[test]
 fn names_are_judged_and_paths_ordered_name_by_name(rt: HostRuntime) {
-    for (bytes, wanted) in REFUSED {
-        assert!(rt; is_refused(rt.alloc(), bytes, wanted));
-    }
-    for (low, high) in ORDERED {
-        assert!(rt; matches!(comes_first(rt.alloc(), low, high), Ok(true)));
-    }
-    assert!(rt; matches!(has_two_names(rt.alloc()), Ok(true)));
-    assert!(rt; FilePath::new(Vec::new(rt.alloc())).is_none());
-    assert!(rt; is_want_of_memory_told(rt.alloc()));
+    assert!(rt; hold(rt.alloc()));
 }

@@ -1,52 +1,45 @@
 //! File trees read of an item (BEP 52, "file tree"), and why it is none. Trees of several files, which are written and
 //! read again, are those of `tor join` and `tor check` (tests/paths.py).
-use crate::shared::{is, path};
+use crate::shared::{is_path, is_refusal};
 use std::alloc::Global;
-use tor_bencode::decode;
-use tor_tree::{FilePath, TreeFile, from_item};
+use tor_bencode::{Item, decode};
+use tor_tree::{TreeFile, from_item};
 
-fn is_refused(alloc: Global, text: &[u8], wanted: &str) -> bool {
-    let Ok(tree) = decode(alloc, text) else {
-        return false;
-    };
-    match from_item(alloc, tree.item()) {
-        Ok(_) => false,
-        Err(fault) => is(format!(in alloc; "{fault}"), wanted),
+fn is_refused(alloc: Global, row: &(&[u8], &str)) -> bool {
+    match decode(alloc, row.0) {
+        Ok(tree) => is_refusal(alloc, from_item(alloc, tree.item()), row.1),
+        Err(_) => false,
     }
 }
 
 // A tree of one empty file, as its spelling, the path of the file, and whether it has the letters x and h.
 type OneFile = (&'static [u8], &'static str, bool, bool);
 
-// Whether a path has this text.
-fn is_path(alloc: Global, found: &FilePath, text: &str) -> bool {
-    match path(alloc, text) {
-        Ok(path) => *found == path,
-        Err(_) => false,
-    }
-}
-
 // Whether these are the one file of a row.
 fn is_file(alloc: Global, files: &[TreeFile], row: &OneFile) -> bool {
-    let (_, text, exec, hidden) = *row;
     match files {
         [file] => {
             file.length == 0
                 && file.root.is_none()
-                && file.exec == exec
-                && file.hidden == hidden
-                && is_path(alloc, &file.path, text)
+                && file.exec == row.2
+                && file.hidden == row.3
+                && is_path(alloc, &file.path, row.1)
         }
         _ => false,
     }
 }
 
-fn has_one_file(alloc: Global, row: &OneFile) -> bool {
-    let Ok(tree) = decode(alloc, row.0) else {
-        return false;
-    };
-    match from_item(alloc, tree.item()) {
+// Whether an item is the tree of that file.
+fn is_tree(alloc: Global, item: &Item, row: &OneFile) -> bool {
+    match from_item(alloc, item) {
         Ok(files) => is_file(alloc, &files, row),
+        Err(_) => false,
+    }
+}
+
+fn has_one_file(alloc: Global, row: &OneFile) -> bool {
+    match decode(alloc, row.0) {
+        Ok(tree) => is_tree(alloc, tree.item(), row),
         Err(_) => false,
     }
 }
@@ -70,12 +63,25 @@ const REFUSED: &[(&[u8], &str)] = &[
     (b"d1:ad0:d6:lengthi1eeee", "K7 Root"),
 ];
 
+fn have_one_file(alloc: Global) -> bool {
+    for row in ONE {
+        if !has_one_file(alloc, row) {
+            return false;
+        }
+    }
+    true
+}
+
+fn are_refused(alloc: Global) -> bool {
+    for row in REFUSED {
+        if !is_refused(alloc, row) {
+            return false;
+        }
+    }
+    true
+}
+
 #[test]
 fn a_tree_has_its_file_or_its_first_fault_is_told(rt: HostRuntime) {
-    for row in ONE {
-        assert!(rt; has_one_file(rt.alloc(), row));
-    }
-    for (text, wanted) in REFUSED {
-        assert!(rt; is_refused(rt.alloc(), text, wanted));
-    }
+    assert!(rt; have_one_file(rt.alloc()) && are_refused(rt.alloc()));
 }

@@ -1,7 +1,7 @@
 //! The list of files of version 1, in pieces of lengths that `tor make` refuses. Other lists are those that it writes
 //! (tests/paths.py).
 
-use crate::shared::{is, thousand_files};
+use crate::shared::{is_shown, thousand_files};
 use std::alloc::{AllocError, Global};
 use tor_tree::FileList;
 use tor_v1::{Layout, LayoutError, lay_out};
@@ -26,12 +26,10 @@ fn is_thousand_laid_out(alloc: Global) -> bool {
 }
 
 fn is_want_of_memory_told(alloc: Global) -> bool {
-    let fault = LayoutError::from(AllocError);
-    is(format!(in alloc; "{fault}"), "out of memory")
+    is_shown(alloc, &LayoutError::from(AllocError), "out of memory")
 }
 
 #[test]
 fn lays_out_a_thousand_files(rt: HostRuntime) {
-    assert!(rt; is_thousand_laid_out(rt.alloc()));
-    assert!(rt; is_want_of_memory_told(rt.alloc()));
+    assert!(rt; is_thousand_laid_out(rt.alloc()) && is_want_of_memory_told(rt.alloc()));
 }

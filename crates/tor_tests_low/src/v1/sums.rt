@@ -2,7 +2,7 @@
 //! (Python's hashlib). Those of whole contents are what `tor make` writes and `tor recheck` finds (tests/hashing.py).
 ghost use Rattle.std.specs.Prelude.{◌<◌};
 
-use crate::shared::content;
+use crate::shared::{are, content};
 use std::alloc::{AllocError, Global};
 use tor_v1::PieceSums;
 
@@ -55,11 +55,16 @@ const ZEROS: &[u8] = b"\
 \xe0\xb8\x4b\x83\x4a\x7a\xdb\x40\x10\x7f\xa7\x83\xa0\x08\xfd\x5e\x69\x9d\xd9\x38\
 \xf9\x07\xb7\xbf\x31\x8b\x79\xfd\x6b\x9d\xa5\x89\x64\x6f\x8b\x1d\xac\x77\xd0\xc8";
 
-fn has_sums(alloc: Global, piece_length: u64, parts: &[Part], wanted: &[u8]) -> bool {
-    match sums_of_parts(alloc, piece_length, parts) {
-        Ok(sums) => sums.as_slice() == wanted,
-        Err(_) => false,
+// The length of a piece, the parts of a content, and the joined hashes.
+type Row = (u64, &'static [Part], &'static [u8]);
+
+fn have_sums(alloc: Global) -> bool {
+    for row in PARTS {
+        if !are(sums_of_parts(alloc, row.0, row.1), row.2) {
+            return false;
+        }
     }
+    true
 }
 
 // Of each length of a piece: a byte fewer than so many pieces, those pieces, and a byte more, of 7, 8, 9, 16 and 17.
@@ -108,10 +113,7 @@ fn has_sums_of_parts(
     part: usize,
     wanted: &[u8],
 ) -> bool {
-    match sums_of(alloc, piece_length, bytes, part) {
-        Ok(sums) => sums.as_slice() == wanted,
-        Err(_) => false,
-    }
+    are(sums_of(alloc, piece_length, bytes, part), wanted)
 }
 
 // Whether bytes have the same sums fed at one time, in parts of less than a piece, and in parts of nine pieces without
@@ -147,8 +149,7 @@ fn agree(alloc: Global, piece_length: u64, lengths: &[usize]) -> bool {
     true
 }
 
-// The length of a piece, the parts of a content, and the joined hashes.
-const PARTS: &[(u64, &[Part], &[u8])] = &[
+const PARTS: &[Row] = &[
     (16384, &[], b""),
     (16384, &[Part::Bytes(b""), Part::Zeros(0)], b""),
     (16384, &[Part::Bytes(b"abc")], ABC),
@@ -190,12 +191,16 @@ const PARTS: &[(u64, &[Part], &[u8])] = &[
 // The length of a piece, and the lengths of contents. Eight whole pieces are hashed at once.
 const RUNS: &[(u64, &[usize])] = &[(64, OF_64), (16_384, OF_16384), (100, OF_100)];
 
+fn all_agree(alloc: Global) -> bool {
+    for row in RUNS {
+        if !agree(alloc, row.0, row.1) {
+            return false;
+        }
+    }
+    true
+}
+
 #[test]
 fn sums_pieces_in_parts_and_in_runs(rt: HostRuntime) {
-    for (piece_length, parts, wanted) in PARTS {
-        assert!(rt; has_sums(rt.alloc(), *piece_length, parts, wanted));
-    }
-    for (piece_length, lengths) in RUNS {
-        assert!(rt; agree(rt.alloc(), *piece_length, lengths));
-    }
+    assert!(rt; have_sums(rt.alloc()) && all_agree(rt.alloc()));
 }

@@ -8,17 +8,17 @@ use lib.Count.{ones}
 
 pub of_entries-requires-clause-pieces : goal.of_entries-requires-clause-pieces
 unfolding ones
-of_entries-requires-clause-pieces c = (refl, omega arith, omega arith)
+of_entries-requires-clause-pieces g c = (refl, omega arith, omega arith)
 
 pub of_entries-requires-clause-span : goal.of_entries-requires-clause-span
 unfolding ones
-of_entries-requires-clause-span c = (refl, omega arith, omega arith)
+of_entries-requires-clause-span g c = (refl, omega arith, omega arith)
 
 pub of_entries-requires-clause-entries : goal.of_entries-requires-clause-entries
-of_entries-requires-clause-entries c =
+of_entries-requires-clause-entries g c =
     subst (IsEntryList Hybrid 16384)
     (sym (c.deref.ensures.value ∙ c.in_ok-entries.ensures.items
-    ∙ five _ _ _ _ _ _ _ _ _ _ (file_is _ 40000 c.in_ok-file_entry.ensures)
-    (file_is _ 0 c.in_ok-file_entry-2.ensures) c.in_ok-pad_entry.ensures (file_is _ 5 c.in_ok-file_entry-3.ensures)
-    c.in_ok-pad_entry-2.ensures))
+    ∙ five _ _ _ _ _ _ _ _ _ _ (file_is _ 40000 c.file_entry.ensures)
+    (file_is _ 0 c.file_entry-2.ensures) c.padding.ensures (file_is _ 5 c.file_entry-3.ensures)
+    c.padding-2.ensures))
     (hybrid_row _ _ _)

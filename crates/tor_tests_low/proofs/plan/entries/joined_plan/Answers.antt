@@ -8,12 +8,12 @@ use lib.Count.{ones}
 
 pub of_entries-requires-clause-span : goal.of_entries-requires-clause-span
 unfolding ones
-of_entries-requires-clause-span c = (refl, omega arith, omega arith)
+of_entries-requires-clause-span g c = (refl, omega arith, omega arith)
 
 pub of_entries-requires-clause-entries : goal.of_entries-requires-clause-entries
-of_entries-requires-clause-entries c =
+of_entries-requires-clause-entries g c =
     subst (IsEntryList V1 4)
     (sym (c.deref.ensures.value ∙ c.in_ok-entries.ensures.items
-    ∙ five _ _ _ _ _ _ _ _ _ _ c.in_ok-pad_entry.ensures (file_is _ 2 c.in_ok-file_entry.ensures)
-    (file_is _ 0 c.in_ok-file_entry-2.ensures) c.in_ok-pad_entry-2.ensures (file_is _ 1 c.in_ok-file_entry-3.ensures)))
+    ∙ five _ _ _ _ _ _ _ _ _ _ c.padding.ensures (file_is _ 2 c.file_entry.ensures)
+    (file_is _ 0 c.file_entry-2.ensures) c.padding-2.ensures (file_is _ 1 c.file_entry-3.ensures)))
     (joined_row _ _ _)
