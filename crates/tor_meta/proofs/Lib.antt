@@ -33,3 +33,6 @@ pub mod PlanLawful
 pub mod PlanPaths
 pub mod PlanTriples
 pub mod ProvedLaws
+pub mod ListSteps
+pub mod FirstFaults
+pub mod Stopped

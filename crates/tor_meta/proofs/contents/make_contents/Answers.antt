@@ -1,10 +1,11 @@
 -- The files in the order of their paths, with their contents, are those that were handed in.
-use Rattle.std.proofs.Common.{◌∙◌, ap, refl}
+use Rattle.std.proofs.Common.{◌∙◌, ap, inr, refl}
 use Rattle.tor_meta.specs.steps.Contents.{bytes_of}
 use Rattle.tor_meta.specs.Head.{settings_of}
 use Rattle.tor_meta.proofs.Made.{accepted_all, contents_listed, files_lawful, judged_list, lengths_in, made_of}
 use Rattle.tor_meta.proofs.Made.{refused_lengths}
 use Rattle.tor_meta.proofs.Made.{refused_paths, within}
+use Rattle.tor_meta.proofs.Stopped.{stopped, stopped_by}
 use Rattle.tor_meta.proofs.contents.make_contents.Goals as goal
 
 pub returns-in-Err-clause-refused : goal.returns-in-Err-clause-refused
@@ -68,3 +69,47 @@ returns-clause-made c =
     c.in-Ok-with_lengths.ensures.files c.in-Ok-with_lengths.ensures.indices
     c.in-Ok.ensures.lawful _ c.in_ok-bytes.bytes.items (ap bytes_of c.deref-5.ensures.value ∙ c.in_ok-ordered.ensures
     ∙ rw (c.deref-3.ensures.value, c.deref-4.ensures.value) refl) c.in_ok-bytes.ensures.made
+
+-- where there is no memory for the paths
+pub returns-in_err-paths : goal.returns-in_err-paths
+returns-in_err-paths c =
+    let r = c.from_residual.result in
+    let is = c.from_residual.ensures.1 in record {
+      made = stopped _ _ r is;
+      info = stopped _ _ r is;
+      accepted = stopped _ _ r is;
+      refused = stopped_by _ _ r is (inr refl);
+    }
+
+-- where there is no memory for the lengths
+pub returns-in_err-lengths : goal.returns-in_err-lengths
+returns-in_err-lengths c =
+    let r = c.from_residual-in_err-lengths.result in
+    let is = c.from_residual-in_err-lengths.ensures.1 in record {
+      made = stopped _ _ r is;
+      info = stopped _ _ r is;
+      accepted = stopped _ _ r is;
+      refused = stopped_by _ _ r is (inr refl);
+    }
+
+-- where there is no memory for the ordered
+pub returns-in_err-ordered : goal.returns-in_err-ordered
+returns-in_err-ordered c =
+    let r = c.from_residual-in_err-ordered.result in
+    let is = c.from_residual-in_err-ordered.ensures.1 in record {
+      made = stopped _ _ r is;
+      info = stopped _ _ r is;
+      accepted = stopped _ _ r is;
+      refused = stopped_by _ _ r is (inr refl);
+    }
+
+-- where there is no memory for the bytes
+pub returns-in_err-bytes : goal.returns-in_err-bytes
+returns-in_err-bytes c =
+    let r = c.from_residual-in_err-bytes.result in
+    let is = c.from_residual-in_err-bytes.ensures.1 in record {
+      made = stopped _ _ r is;
+      info = stopped _ _ r is;
+      accepted = stopped _ _ r is;
+      refused = stopped_by _ _ r is (inr refl);
+    }

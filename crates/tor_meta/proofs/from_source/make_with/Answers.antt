@@ -1,16 +1,18 @@
 -- the files in the order of their paths are those that were handed in
-use Rattle.std.proofs.Common.{◌≡◌, ◌<◌, ℕ, List, Some, ◌∙◌, sym, ap, refl, subst, get_or, length}
+use Rattle.std.proofs.Common.{◌≡◌, ◌<◌, ℕ, List, Some, inl, ◌∙◌, sym, ap, refl, subst, get_or, length}
 use Rattle.std.specs.List.{All}
 use Rattle.std.proofs.lemmas.List.{length-map}
+use Rattle.std.proofs.lemmas.Option.{none-some}
 use Rattle.tor_sums.specs.Contents.{contents_in}
 use Rattle.tor_meta.specs.steps.Contents.{files_of}
-use Rattle.tor_meta.specs.Make.{IsGivenTo}
+use Rattle.tor_meta.specs.Make.{IsGivenTo, make_refusal}
 use Rattle.tor_meta.specs.MakeError.{of_engine_error}
 use Rattle.tor_meta.specs.Order.{settings_of_order}
 use Rattle.tor_meta.specs.steps.IndexedFiles.{facts_at, renumbered}
 use Rattle.tor_spec.specs.Metainfo.{metainfo}
 use Rattle.tor_tree.specs.FileList.{lengths_of, paths_of}
 use Rattle.tor_tree.specs.PathList.{indices_of}
+use Rattle.tor_meta.proofs.FirstFaults.{asked_first, one_refusal, own_hashing, own_refusal, refusal_first}
 use Rattle.tor_meta.proofs.FromSource.{made_of, made_of_some, made_of_told}
 use Rattle.tor_meta.proofs.GivenFiles.{given_of_indexed}
 use Rattle.tor_meta.proofs.Indexed.{indices_within}
@@ -18,6 +20,7 @@ use Rattle.tor_meta.proofs.SourceFaults.{fault_none, fault_told, lengths_told}
 use Rattle.tor_meta.proofs.Made.{files_lawful, judged_list}
 use Rattle.tor_meta.proofs.Refused.{given_or_not, paths_of as paths_accepted, span_of}
 use Rattle.tor_meta.proofs.SourceFiles.{entries_within, told_of_listed}
+use Rattle.tor_meta.proofs.Stopped.{stopped, stopped_by, stopped_match}
 use Rattle.tor_meta.proofs.from_source.make_with.Goals as goal
 
 pub returns-in-Err-clause-gave : goal.returns-in-Err-clause-gave
@@ -139,3 +142,50 @@ returns-clause-gave g c =
     subst (λ error. IsGivenTo answers count error) (sym same)
     (given_of_indexed answers count indices (lengths_of list) within one_each first
     c.in-Err-torrent_of_listed.error c.in-Err-torrent_of_listed.ensures.gave)
+
+-- what is refused before any length is asked, and what asking tells
+pub returns-in-Err-clause-fault : goal.returns-in-Err-clause-fault
+returns-in-Err-clause-fault g c = λ facts steady.
+    refusal_first facts c.args.order.now (paths_of c.args.files.now) c.in-Err.error c.in-Err.ensures.refused
+
+pub returns-in-Err-clause-refused : goal.returns-in-Err-clause-refused
+returns-in-Err-clause-refused g c = λ refusal is.
+    one_refusal (make_refusal c.args.order.now (paths_of c.args.files.now)) c.in-Err.error refusal
+    c.in-Err.ensures.refused is
+
+pub returns-in-Err-clause-only : goal.returns-in-Err-clause-only
+returns-in-Err-clause-only g c =
+    own_refusal (make_refusal c.args.order.now (paths_of c.args.files.now)) c.in-Err.error c.in-Err.ensures.refused
+
+pub returns-in-Err-ask_lettered-clause-fault : goal.returns-in-Err-ask_lettered-clause-fault
+returns-in-Err-ask_lettered-clause-fault g c = λ facts steady.
+    let judged = c.in-Ok.ensures in
+    asked_first facts c.args.order.now (paths_of c.args.files.now) c.in-Err-ask_lettered.error c.in-Ok.paths
+    judged.indexed judged.lawful judged.accepted (c.in-Err-ask_lettered.ensures.fault facts steady)
+
+pub returns-in-Err-ask_lettered-clause-refused : goal.returns-in-Err-ask_lettered-clause-refused
+returns-in-Err-ask_lettered-clause-refused g c = λ refusal is.
+    absurd (none-some refusal (sym c.in-Ok.ensures.accepted ∙ is))
+
+pub returns-clause-refused : goal.returns-clause-refused
+returns-clause-refused g c = λ refusal is. absurd (none-some refusal (sym c.in-Ok.ensures.accepted ∙ is))
+
+pub returns-clause-only : goal.returns-clause-only
+returns-clause-only g c =
+    own_hashing (make_refusal c.args.order.now (paths_of c.args.files.now)) c.from.result _ c.from.ensures
+
+-- where there is no memory for the head
+pub returns-in_err-head : goal.returns-in_err-head
+returns-in_err-head g c =
+    let r = c.from_residual.result in
+    let is = c.from_residual.ensures.1 in record {
+      made = λ facts steady. stopped _ _ r is;
+      whole = stopped _ _ r is;
+      told = stopped _ _ r is;
+      info = stopped _ _ r is;
+      fault = λ facts steady. stopped_match _ _ _ r is (inl refl);
+      accepted = stopped _ _ r is;
+      refused = λ refusal first. stopped_by _ _ r is (inl refl);
+      only = stopped_by _ _ r is tt;
+      gave = stopped_by _ _ r is tt;
+    }

@@ -1,9 +1,10 @@
 -- paths that rise stay in their order
-use Rattle.std.proofs.Common.{List, ℕ, sym, subst, ap, ◌∙◌}
+use Rattle.std.proofs.Common.{List, ℕ, inl, refl, sym, subst, ap, ◌∙◌}
 use Rattle.tor_meta.proofs.RisingPaths.{stay_in_order}
 use Rattle.tor_meta.specs.MakeStreams.{are_rising}
 use Rattle.tor_tree.specs.FileList.{paths_of}
 use Rattle.tor_tree.specs.PathList.{AreIndexedPaths}
+use Rattle.tor_meta.proofs.Stopped.{stopped, stopped_by}
 use Rattle.tor_meta.proofs.from_streams.accepted_paths.Goals as goal
 
 pub returns-in-Ok-clause-same : goal.returns-in-Ok-clause-same
@@ -15,3 +16,15 @@ returns-in-Ok-clause-same c =
     (subst (λ (copies : List (List (List ℕ))). AreIndexedPaths copies c.in-Ok.paths) copied
     c.in-Ok.ensures.indexed)
     c.in-Ok.ensures.lawful.in_order
+
+-- where there is no memory for the paths
+pub returns-in_err-paths : goal.returns-in_err-paths
+returns-in_err-paths c =
+    let r = c.from_residual.result in
+    let is = c.from_residual.ensures.1 in record {
+      same = stopped _ _ r is;
+      indexed = stopped _ _ r is;
+      lawful = stopped _ _ r is;
+      accepted = stopped _ _ r is;
+      refused = stopped_by _ _ r is (inl refl);
+    }

@@ -1,15 +1,18 @@
 -- what was read, in the order of the paths
-use Rattle.std.proofs.Common.{◌≡◌, ◌∙◌, None, Some, length, map, ap, sym, subst}
+use Rattle.std.proofs.Common.{◌≡◌, ◌∙◌, None, Some, inl, length, map, ap, refl, sym, subst}
 use Rattle.std.proofs.lemmas.List.{length-map}
+use Rattle.std.proofs.lemmas.Option.{none-some}
 use Rattle.std.specs.declared.io.Error.{Error}
 use Rattle.tor_streams.specs.Streams.{GivesWhole}
 use Rattle.tor_meta.specs.Contents.{files_with}
-use Rattle.tor_meta.specs.MakeStreams.{IsGivenByReaders}
+use Rattle.tor_meta.specs.MakeStreams.{IsGivenByReaders, stream_refusal}
 use Rattle.tor_meta.specs.Order.{settings_of_order}
 use Rattle.tor_meta.specs.Refusal.{paths_refusal}
 use Rattle.tor_meta.specs.steps.Sums.{AreSumsOfSettings}
+use Rattle.tor_meta.proofs.FirstFaults.{one_refusal, own_hashing, own_large, own_refusal}
 use Rattle.tor_meta.proofs.Refused.{accepted_numbers, given_by_readers_or_not, stream_paths, stream_rising}
 use Rattle.tor_meta.proofs.RisingPaths.{sorted_from_rising}
+use Rattle.tor_meta.proofs.Stopped.{stopped, stopped_by}
 use Rattle.tor_meta.proofs.StreamSums.{given_large, known_long, lengths_read, made_in_order}
 use Rattle.tor_spec.specs.Metainfo.{metainfo}
 use Rattle.tor_spec.specs.Settings.{Settings}
@@ -101,3 +104,44 @@ returns-clause-gave g c =
     (given_large Error known summed.contents sums.lengths.items c.in-Err-torrent_of_read.refusal summed.given
     (lengths_read (settings_of_order c.args.order.now) summed.contents sums summed.sums_up)
     c.in-Err-torrent_of_read.ensures.refused)
+
+-- what is refused before any reader is read, and what reading tells
+pub returns-in-Err-clause-refused : goal.returns-in-Err-clause-refused
+returns-in-Err-clause-refused g c = λ refusal is.
+    one_refusal (stream_refusal c.args.order.now (paths_of c.args.files.now)) c.in-Err.error refusal
+    c.in-Err.ensures.refused is
+
+pub returns-in-Err-clause-only : goal.returns-in-Err-clause-only
+returns-in-Err-clause-only g c =
+    own_refusal (stream_refusal c.args.order.now (paths_of c.args.files.now)) c.in-Err.error c.in-Err.ensures.refused
+
+pub returns-in-Err-sums_of-clause-refused : goal.returns-in-Err-sums_of-clause-refused
+returns-in-Err-sums_of-clause-refused g c = λ refusal is.
+    absurd (none-some refusal (sym c.in-Ok.ensures.accepted ∙ is))
+
+pub returns-in-Err-sums_of-clause-only : goal.returns-in-Err-sums_of-clause-only
+returns-in-Err-sums_of-clause-only g c =
+    own_hashing (stream_refusal c.args.order.now (paths_of c.args.files.now)) c.from.result _ c.from.ensures
+
+pub returns-clause-refused : goal.returns-clause-refused
+returns-clause-refused g c = λ refusal is. absurd (none-some refusal (sym c.in-Ok.ensures.accepted ∙ is))
+
+pub returns-clause-only : goal.returns-clause-only
+returns-clause-only g c =
+    own_large (stream_refusal c.args.order.now (paths_of c.args.files.now)) c.from-in-Err-torrent_of_read.result
+    c.in-Err-torrent_of_read.refusal c.from-in-Err-torrent_of_read.ensures c.in-Err-torrent_of_read.ensures.refused
+
+-- where there is no memory for the head
+pub returns-in_err-head : goal.returns-in_err-head
+returns-in_err-head g c =
+    let r = c.from_residual.result in
+    let is = c.from_residual.ensures.1 in record {
+      made = λ contents known. stopped _ _ r is;
+      whole = stopped _ _ r is;
+      some = stopped _ _ r is;
+      info = stopped _ _ r is;
+      accepted = stopped _ _ r is;
+      refused = λ refusal first. stopped_by _ _ r is (inl refl);
+      only = stopped_by _ _ r is tt;
+      gave = stopped_by _ _ r is tt;
+    }

@@ -1,6 +1,6 @@
 -- the units of the lot
 use Rattle.std.proofs.Common.{◌≡◌, ◌<◌, ◌∙◌, ◌+◌, ℕ, false, List, None, Ok, Option, Some, ap, ap₂, arith, get_or}
-use Rattle.std.proofs.Common.{inr, is_some, length, not, option_map, refl, subst, sym}
+use Rattle.std.proofs.Common.{◌≢◌, true, inl, inr, is_some, length, not, option_map, refl, subst, sym}
 use Rattle.std.proofs.lemmas.List.{get_or_default}
 use Rattle.std.proofs.lemmas.Slice.Eq.{bytes_eq-Decides}
 use Rattle.std.specs.Cmp.Lexicographic.{pointwise}
@@ -17,6 +17,7 @@ use Rattle.tor_parts.specs.declared.lot_text.Lot.{Lot}
 use Rattle.tor_parts.proofs.ProvedLaws.{lots_begin_in_order, lots_begin_within}
 use Rattle.tor_plan.specs.PlanFacts.{PlanFacts}
 use Rattle.tor_plan.specs.declared.units.PlanUnit.{PlanUnit}
+use Rattle.tor_meta.proofs.Stopped.{stopped, stopped_by}
 use Rattle.tor_meta.proofs.lot_rows.next_lot.Goals as goal
 
 of_lot : (plan : PlanFacts) (count : ℕ) (lot : Lot) → lot.lots ≡ count
@@ -119,3 +120,64 @@ returns-clause-next c = λ earlier slotted.
           (subst (λ (units : List PlanUnit). HasOwnPieces plan units lot.row) cut
           (c.if-not-has_own_pieces.ensures.0 refl));
     }
+
+-- where there is no memory for the lot
+pub returns-in_err-lot : goal.returns-in_err-lot
+returns-in_err-lot c =
+    let r = c.from_residual.result in
+    let is = c.from_residual.ensures.1 in record {
+      is = stopped _ _ r is;
+      next = λ earlier slotted. stopped _ _ r is;
+      refused = λ earlier slotted long. stopped_by _ _ r is (inl refl);
+    }
+
+pub returns-in_default-clause-refused : goal.returns-in_default-clause-refused
+returns-in_default-clause-refused c = λ earlier slotted long.
+    inr (sym long, λ lot lawful is. absurd (rw c.in_default.is at (c.in_ok-lot.ensures.all lot lawful is)))
+
+unequal : (xs ys : List ℕ) → true ≡ not (pointwise nat_eq xs ys) → xs ≢ ys
+unequal xs ys differ same = let equal = (bytes_eq-Decides xs ys).1 same in cc
+
+pub returns-then-ne-clause-refused : goal.returns-then-ne-clause-refused
+returns-then-ne-clause-refused c = λ earlier slotted long.
+    let lot = c.in-Some.lot in
+    let read = c.in_ok-lot.ensures.read lot (ap Ok c.in-Some.is) in
+    inr (sym long, (facts_of lot, read.1, read.0, unequal lot.plan c.args.digest.now c.if-ne.ensures))
+
+pub returns-then-lot-count-clause-refused : goal.returns-then-lot-count-clause-refused
+returns-then-lot-count-clause-refused c = λ earlier slotted long.
+    let lot = c.in-Some.lot in
+    let read = c.in_ok-lot.ensures.read lot (ap Ok c.in-Some.is) in
+    inr (
+      sym long,
+      (facts_of lot, read.1, read.0, equal lot.plan c.args.digest.now c.if-ne.ensures, c.if-lot-count.true),
+    )
+
+row_there : (o : Option PieceRow) → true ≡ is_some o → is_some (option_map row_in o) ≡ true
+row_there None there = cc
+row_there (Some row) there = refl
+
+taken_row : (slots : List (Option PieceRow)) (earlier : List LotFacts) (number : ℕ) (o : Option PieceRow)
+    → number < length slots → AreSlots slots earlier → o ≡ get_or slots number o → true ≡ is_some o
+    → is_some (row_at number earlier) ≡ true
+taken_row slots earlier number o there slotted is taken =
+    ap is_some (sym (slotted number there) ∙ ap (option_map row_in) (get_or_default slots number None o there ∙ sym is))
+    ∙ row_there o taken
+
+pub returns-then-is_some-clause-refused : goal.returns-then-is_some-clause-refused
+returns-then-is_some-clause-refused c = λ earlier slotted long.
+    let lot = c.in-Some.lot in
+    let read = c.in_ok-lot.ensures.read lot (ap Ok c.in-Some.is) in
+    let same : lot.lots ≡ c.args.count = c.if-lot-count.false in
+    inr (
+      sym long,
+      (
+        facts_of lot,
+        read.1,
+        read.0,
+        equal lot.plan c.args.digest.now c.if-ne.ensures,
+        same,
+        taken_row c.args.slots.now earlier lot.number c.index-slots-number.result
+            (omega (arith, read.1.number, same, c.requires.slots)) slotted c.index-slots-number.is c.if-is_some.ensures,
+      ),
+    )
