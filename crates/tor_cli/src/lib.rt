@@ -1,8 +1,9 @@
 //! The program `tor` over any reader and writers: it makes BitTorrent metainfo files, and tells what foreign ones
 //! describe. The crate `tor` has no more than `main`.
 //!
-//! - `program.rt`: the words of the command line and the real streams. `execute.rt`: what is done with them.
-//!   `command.rt`: what the words ask for, of the commands that `tor_words` has; `workers.rt`: by how many workers.
+//! - `program.rt`: the words of the command line and the real streams. `execute.rt`: what is done with them;
+//!   `ending.rt`: the status that comes back. `command.rt`: what the words ask for, of the commands that `tor_words`
+//!   has; `workers.rt`: by how many workers.
 //! - `make.rt`: the command `make`; `scan.rt`: `scan`; `check.rt`: `check` and `magnet`; `recheck.rt`: `recheck`;
 //!   `proof.rt`: `prove` and `verify`. Each has a folder of its name, and tells what stands there.
 //! - `edit.rt`: `edit`; `lots.rt`: `plan`, `join`, and `make --plan`.
@@ -20,6 +21,7 @@ mod answer;
 mod check;
 mod command;
 mod edit;
+mod ending;
 pub mod execute;
 mod explain;
 pub mod fault;

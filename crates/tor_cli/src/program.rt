@@ -4,15 +4,13 @@ ghost use Rattle.std.specs.Prelude.{◌≡◌, ◌≤◌, IfOk, map, string_byte
 ghost use Rattle.std.specs.Process.{exit_status};
 ghost use Rattle.std.specs.Vec.Iter.{into_iter_items};
 ghost use Rattle.clap.specs.Walk.{texts};
-ghost use Rattle.tor_cli.specs.Run.{IsRunOf};
-ghost use Rattle.tor_cli.specs.Streams.{streams};
 
-use crate::execute::run;
+use crate::ending::run_over;
 use crate::fault::Fault;
 use crate::terminal::{TerminalWriter, escapes_for, escapes_of_lines};
 use std::alloc::{AllocError, Global};
 use std::env;
-use std::io::{ErrorKind, IsTerminal, Read, Write};
+use std::io::{ErrorKind, IsTerminal};
 use std::process::ExitCode;
 use std::sync::Wait;
 use std::thread::Threads;
@@ -72,23 +70,6 @@ fn texts_of<'a>(alloc: Global, words: &'a [String]) -> Result<Vec<&'a str>, Allo
         texts.push(word.as_str())?;
     }
     Ok(texts)
-}
-
-/// Runs the program over these words and streams: its status is the process's.
-fn run_over<T: Threads + Wait + Sync + Send + Clone + Drop + 'static, R: Read, W: Write, E: Write>(
-    rt: &T,
-    system: &HostRuntime,
-    words: &[&str],
-    reader: &mut R,
-    out: &mut W,
-    err: &mut E,
-    shows_progress: bool,
-) -> ExitCode
-    ensures { IsRunOf (texts words.entry.now)
-        (streams (R.remaining reader.old) (R.remaining reader.new) (W.contents out.old) (W.contents out.new))
-        (exit_status result) }
-{
-    ExitCode::from(run(rt, system, words, reader, out, err, shows_progress))
 }
 
 /// Tells a fault of the words, which is all that can stop the program before it does anything.
