@@ -1,5 +1,5 @@
-//! A run of the program, and the status that the process ends with. It stands in a file of its own, so that `main` reads
-//! none of the definitions that its clause names.
+//! A run of the program, and the status that the process ends with. It stands in a file of its own, so that `main`
+//! reads none of the definitions that its clause names.
 ghost use Rattle.std.specs.Process.{exit_status};
 ghost use Rattle.clap.specs.Walk.{texts};
 ghost use Rattle.tor_cli.specs.Run.{IsRunOf};
