@@ -1,8 +1,9 @@
 //! A word of a command as the kit's `clap` has it.
 ghost use Rattle.std.specs.Prelude.{[], IfOk};
 ghost use Rattle.tor_words.specs.Bounds.{other_of};
-ghost use Rattle.tor_words.specs.CommandLine.{flag_of, may_argument, option_of};
+ghost use Rattle.tor_words.specs.CommandLine.{argument_of, flag_of, may_argument, option_of};
 ghost use Rattle.tor_words.specs.Rules.{AreArgumentsOf, IsArgumentOf, HasNoOthers, rule_of_takes};
+ghost use Rattle.tor_words.specs.declared.word.Takes.TheVariants.{NumberOr, ValueOr};
 
 use crate::word::{Takes, Word};
 use clap::{Arg, ArgAction, value_parser};
@@ -39,28 +40,17 @@ fn argument_of_takes<'a>(alloc: Global, word: &Word<'a>) -> Result<Arg<'a>, Allo
         Takes::WantedUnless { shown, other } => {
             option_of(alloc, word, shown).required_unless_present(other)
         }
-        Takes::ValueOr { shown, default } => {
-            Ok(option_of(alloc, word, shown).default_value(default))
-        }
+        Takes::ValueOr { shown, default } => Ok(option_with_default(alloc, word, shown, default)),
         Takes::NameOr {
             shown,
             names,
             default,
-        } => {
-            let option = option_of(alloc, word, shown).value_parser(names);
-            Ok(option.default_value(default))
-        }
-        Takes::NumberOr { shown, default } => {
-            let option = option_of(alloc, word, shown).value_parser(value_parser!(u32));
-            Ok(option.default_value(default))
-        }
-        Takes::Argument { number, shown } => {
-            let argument = numbered_of(alloc, word, number, shown);
-            Ok(argument.required(true))
-        }
+        } => Ok(option_with_default(alloc, word, shown, default).value_parser(names)),
+        Takes::NumberOr { shown, default } => Ok(number_with_default(alloc, word, shown, default)),
+        Takes::Argument { number, shown } => Ok(argument_of(alloc, word, number, shown)),
         Takes::MayArgument { number, shown } => Ok(numbered_of(alloc, word, number, shown)),
         Takes::NumberArgument { number, shown } => {
-            let argument = numbered_of(alloc, word, number, shown).required(true);
+            let argument = argument_of(alloc, word, number, shown);
             Ok(argument.value_parser(value_parser!(u64)))
         }
         Takes::Arguments { number, shown } => {
@@ -87,6 +77,37 @@ fn option_of<'a>(alloc: Global, word: &Word<'a>, shown: &'a str) -> Arg<'a>
         .long(word.name)
         .value_name(shown)
         .help(word.help)
+}
+
+/// An option with a value: `default`, if the option is not there.
+fn option_with_default<'a>(
+    alloc: Global,
+    word: &Word<'a>,
+    shown: &'a str,
+    default: &'a str,
+) -> Arg<'a>
+    ensures { HasNoOthers (rule_of_takes word.now.name.now (ValueOr shown.entry default.entry)) [] result }
+{
+    option_of(alloc, word, shown).default_value(default)
+}
+
+/// An option with a number of 32 bits for a value: `default`, if the option is not there.
+fn number_with_default<'a>(
+    alloc: Global,
+    word: &Word<'a>,
+    shown: &'a str,
+    default: &'a str,
+) -> Arg<'a>
+    ensures { HasNoOthers (rule_of_takes word.now.name.now (NumberOr shown.entry default.entry)) [] result }
+{
+    option_with_default(alloc, word, shown, default).value_parser(value_parser!(u32))
+}
+
+/// The word of this number, from 1, which has to be there.
+fn argument_of<'a>(alloc: Global, word: &Word<'a>, number: usize, shown: &'a str) -> Arg<'a>
+    ensures { HasNoOthers (argument_of word.now.name.now number) [] result }
+{
+    numbered_of(alloc, word, number, shown).required(true)
 }
 
 /// The word of this number, from 1.
