@@ -129,6 +129,11 @@ module _ (p : ℕ) (lengths : List ℕ) (rest : List (List ℕ)) (i : ℕ) where
   abbrev later : List ℕ
   later = drop (i + 1) lengths
 
+  pub own_counted : i < length lengths → length rest ≡ pieces_of_lengths p (drop i lengths) → next ≤ length rest
+  own_counted there counted =
+      let more = ap (pieces_of_lengths p) (drop_more lengths i 0 there) in
+      omega (arith, counted, more, sum_by-cons (λ m. div_ceil m p) (get_or lengths i 0) later)
+
   pub left_counted : i < length lengths → length rest ≡ pieces_of_lengths p (drop i lengths)
       → length (drop next rest) ≡ pieces_of_lengths p later
   left_counted there counted =

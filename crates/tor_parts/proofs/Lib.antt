@@ -1,8 +1,10 @@
 pub mod DealtUnits
 pub mod FileTrees
 pub mod FirstFaults
+pub mod FlatMaps
 pub mod LotLawful
 pub mod LotHashes
+pub mod LotPairs
 pub mod LotsJoined
 pub mod OneLot
 pub mod OwnPieces

@@ -1,9 +1,9 @@
 -- The hashes that joined bytes are, 32 bytes each.
-use Rattle.std.proofs.Common.{◌≡◌, ◌≤◌, ◌<◌, get_or, ℕ, zero, suc, ◌*◌, ◌/◌, List, [], ◌∷◌, ◌++◌, length, take, drop}
-use Rattle.std.proofs.Common.{refl, ap, ap₂}
-use Rattle.std.proofs.Common.{sym, ◌∙◌, arith}
+use Rattle.std.proofs.Common.{◌≡◌, ◌≤◌, ◌<◌, get_or, ℕ, zero, suc, ◌+◌, ◌*◌, ◌/◌, List, [], ◌∷◌, ◌++◌, length, take}
+use Rattle.std.proofs.Common.{drop, refl, subst, ap, ap₂, sym, ◌∙◌, arith}
+use Rattle.std.proofs.ByRecursion.{All-push}
 use Rattle.std.proofs.Math.Seq.{drop-append_seam, take-append_seam}
-use Rattle.std.proofs.lemmas.List.{length-append, length-drop, length-take-le}
+use Rattle.std.proofs.lemmas.List.{length-append, length-drop, length-take-le, take_more}
 use Rattle.std.specs.List.{AllByRecursion}
 use Rattle.std.specs.Simd.{first_chunks}
 use Rattle.tor_parts.specs.LotText.{Is32, joined}
@@ -37,7 +37,6 @@ chunks_joined bytes hashes are same =
     ap₂ (λ n bs. first_chunks 32 n bs) count same ∙ chunks_of hashes are
 
 pub all_more : (xs : List (List ℕ)) (i : ℕ) (d : List ℕ) → i < length xs → AllByRecursion Is32 (take i xs)
-    → Is32 (get_or xs i d) → AllByRecursion Is32 (take (suc i) xs)
-all_more [] i d there all is = absurd (omega (arith, there))
-all_more (x ∷ xs) zero d there all is = (is, tt)
-all_more (x ∷ xs) (suc i) d there all is = (all.0, all_more xs i d (omega (arith, there)) all.1 is)
+    → Is32 (get_or xs i d) → AllByRecursion Is32 (take (i + 1) xs)
+all_more xs i d there all is =
+    subst (AllByRecursion Is32) (sym (take_more xs i d there)) (All-push Is32 (take i xs) (get_or xs i d) all is)

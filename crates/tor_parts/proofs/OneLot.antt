@@ -1,6 +1,5 @@
 -- Bytes are those of one lot at most.
-use Rattle.std.proofs.Common.{◌≡◌, ◌∙◌, ◌/◌, ℕ, ℤ, pos, List, [], Option, Some, append-nil, ap, ap₂, arith, codes, length, refl, sym}
-use Rattle.std.specs.Simd.{first_chunks}
+use Rattle.std.proofs.Common.{◌≡◌, ◌∙◌, ℕ, ℤ, pos, List, [], Option, Some, append-nil, ap, arith, codes, refl, sym}
 use Rattle.tor_bencode.specs.Data.{Data}
 use Rattle.tor_bencode.specs.Find.{value_of}
 use Rattle.tor_bencode.specs.Lawful.{IsLawful}

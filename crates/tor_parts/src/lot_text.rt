@@ -1,14 +1,15 @@
 //! What was hashed of a lot, as bytes.
-ghost use Rattle.std.specs.Prelude.{◌≡◌, ◌<◌, ◌≤◌, ◌^◌, ℕ, IfOk, IfSome, IsSomeAnd, List, Ok, Some, pos};
+ghost use Rattle.std.specs.Prelude.{◌≡◌, ◌<◌, ◌≤◌, ◌^◌, [], ℕ, IfOk, IfSome, IsSomeAnd, List, Ok, OnOk, Some, pos};
 ghost use Rattle.std.specs.List.{AllByRecursion};
 ghost use Rattle.std.specs.Option.{option_copied};
-ghost use Rattle.tor_bencode.specs.Data.{integer, string};
+ghost use Rattle.tor_bencode.specs.Data.{dictionary, integer, string};
 ghost use Rattle.tor_bencode.specs.Find.{value_of};
-ghost use Rattle.tor_bencode.specs.View.{view};
+ghost use Rattle.tor_bencode.specs.View.{pairs_view, view};
 ghost use Rattle.tor_tree.specs.Properties.{as_integer, as_string};
 ghost use Rattle.tor_parts.specs.declared.lot_text.Lot.{Lot};
 ghost use Rattle.tor_parts.specs.LotText.{Is32, IsLot, LotFacts, facts_of, joined, lot_bytes, lot_dictionary};
 ghost use Rattle.tor_parts.specs.declared.lot_text.TheConstants.{MAX_LOTS};
+ghost use Rattle.tor_parts.specs.steps.Pairs.{with_pair};
 
 use std::alloc::{AllocError, Global};
 use tor_bencode::{BenError, Item, Tree, decode, encode, find};
@@ -53,28 +54,54 @@ fn tree_of(alloc: Global, lot: &Lot) -> Result<Tree, AllocError>
 {
     // So that the bounds of their types are known.
     let (_number, _lots) = (lot.number, lot.lots);
-    let item = item_of(alloc, lot)?;
-    match Tree::of(item) {
+    let mut pairs = Vec::with_capacity(alloc, 5)?;
+    push_pairs(alloc, &mut pairs, lot)?;
+    match Tree::of(Item::Dict(pairs)) {
         Ok(tree) => Ok(tree),
         Err(_) => unreachable!(),
     }
 }
 
-/// The dictionary of a lot.
-fn item_of(alloc: Global, lot: &Lot) -> Result<Item, AllocError>
-    ensures item { IfOk result (λ item. view item ≡ lot_dictionary (facts_of lot.now)) }
-    ensures hashes { IfOk result (λ _. Is32 lot.now.plan × AllByRecursion Is32 lot.now.row.hashes.items) }
+/// Puts the pairs of a lot into an empty vector.
+fn push_pairs(alloc: Global, pairs: &mut Vec<(Vec<u8>, Item)>, lot: &Lot) -> Result<(), AllocError>
+    requires { pairs.old.items ≡ [] }
+    ensures pairs { OnOk result (dictionary (pairs_view pairs.new.items) ≡ lot_dictionary (facts_of lot.now)) }
+    ensures hashes { OnOk result (Is32 lot.now.plan × AllByRecursion Is32 lot.now.row.hashes.items) }
 {
     let hashes = joined_hashes(alloc, &lot.row.hashes)?;
-    let pieces = lot.row.pieces.as_slice();
-    let pairs = vec![in alloc;
-        (Vec::from_slice(alloc, b"hashes")?, Item::Bytes(hashes)),
-        (Vec::from_slice(alloc, b"part")?, number(lot.number)),
-        (Vec::from_slice(alloc, b"parts")?, number(lot.lots)),
-        (Vec::from_slice(alloc, b"pieces")?, text(alloc, pieces)?),
-        (Vec::from_slice(alloc, b"plan")?, text(alloc, &lot.plan)?),
-    ]?;
-    Ok(Item::Dict(pairs))
+    push_pair(alloc, pairs, b"hashes", Item::Bytes(hashes))?;
+    push_pair(alloc, pairs, b"part", number(lot.number))?;
+    push_pair(alloc, pairs, b"parts", number(lot.lots))?;
+    push_text(alloc, pairs, b"pieces", lot.row.pieces.as_slice())?;
+    push_text(alloc, pairs, b"plan", &lot.plan)
+}
+
+/// Puts a key and a byte string of these bytes behind the others.
+fn push_text(
+    alloc: Global,
+    pairs: &mut Vec<(Vec<u8>, Item)>,
+    key: &[u8],
+    bytes: &[u8],
+) -> Result<(), AllocError>
+    ensures { OnOk result
+        (pairs_view pairs.new.items ≡ with_pair (pairs_view pairs.old.items) key.now (string bytes.now)) }
+{
+    push_pair(alloc, pairs, key, text(alloc, bytes)?)
+}
+
+/// Puts a key and its value behind the others.
+fn push_pair(
+    alloc: Global,
+    pairs: &mut Vec<(Vec<u8>, Item)>,
+    key: &[u8],
+    value: Item,
+) -> Result<(), AllocError>
+    ensures { OnOk result
+        (pairs_view pairs.new.items ≡ with_pair (pairs_view pairs.old.items) key.now (view value)) }
+{
+    let key = Vec::from_slice(alloc, key)?;
+    pairs.push((key, value))?;
+    Ok(())
 }
 
 /// Hashes one after another.

@@ -1,9 +1,12 @@
 //! A torrent's pieces looked for by many machines: each looks for those of its own lot.
-ghost use Rattle.std.specs.Prelude.{◌≡◌, ◌≢◌, ◌+◌, ◌-◌, ◌<◌, ◌≤◌, ◌^◌, Err, IfErr, IfOk, MatchResult, None, drop};
-ghost use Rattle.std.specs.Prelude.{length, take};
+ghost use Rattle.std.specs.Prelude.{◌≡◌, ◌≢◌, ◌+◌, ◌++◌, ◌-◌, ◌<◌, ◌≤◌, ◌^◌, Err, IfErr, IfOk, MatchResult, None, OnOk};
+ghost use Rattle.std.specs.Prelude.{drop, length, replicate, take};
 ghost use Rattle.tor_recheck.specs.Lots.{IsOfLot, first_lot_fault, first_of_lot, in_lot, lot_byte};
+ghost use Rattle.tor_recheck.specs.Pieces.{IsCut};
 ghost use Rattle.tor_recheck.specs.Recheck.{IsFault, IsGiven};
 ghost use Rattle.tor_recheck.specs.declared.errors.RecheckError.TheVariants.{Workers};
+ghost use Rattle.tor_recheck.specs.steps.Hashes.{hashes_in_lot};
+ghost use Rattle.tor_recheck.specs.steps.Judge.{all_judged};
 ghost use Rattle.tor_source.specs.Source.{SourceFacts};
 ghost use Rattle.tor_spec.specs.Verified.{verified_pieces};
 ghost use Rattle.tor_sums.specs.Contents.{contents_in};
@@ -50,19 +53,66 @@ pub fn recheck_lot<S: Source, R: Threads + Sync>(
     if !how.is_allowed() {
         return Err(RecheckError::Workers);
     }
+    let hashes = match hashes_in_lot(rt, alloc, source, torrent, lots, lot, how) {
+        Ok(hashes) => hashes,
+        Err(error) => return Err(error),
+    };
+    let (from, to) = range_of_lot(torrent, lots, lot);
+    let bits = bits_by_hashes(alloc, torrent, hashes, from, to)?;
+    Ok(bits)
+}
+
+/// Which of the pieces from one on, and before another, are there and right, by what they hash to.
+fn bits_by_hashes(
+    alloc: Global,
+    torrent: &Torrent,
+    hashes: PieceHashes,
+    from: usize,
+    to: usize,
+) -> Result<Bits, AllocError>
+    requires ordered { from ≤ to }
+    requires within { to ≤ from + length hashes }
+    ensures { IfOk result (λ own. own
+        ≡ take (to - from) (drop from (all_judged torrent.now (replicate from None ++ hashes)))) }
+{
+    let all = PieceHashes::after(alloc, from, hashes)?;
+    let bits = verified_bits(alloc, torrent, &all)?;
+    bits_between(alloc, &bits, from, to)
+}
+
+/// What each piece of a lot hashes to: None if a byte of it is not there. Those files alone are asked and read that
+/// have bytes in these pieces.
+fn hashes_in_lot<S: Source, R: Threads + Sync>(
+    rt: &R,
+    alloc: Global,
+    source: &S,
+    torrent: &Torrent,
+    lots: u32,
+    lot: u32,
+    how: How,
+) -> Result<PieceHashes, RecheckError<S::Fault>>
+    requires lot { lot < lots }
+    requires how { IsHow how }
+    ensures hashed { (facts : SourceFacts S.Fault) → S.is_steady source.now facts →
+        MatchResult result
+        (λ hashes. (hashes ≡ hashes_in_lot torrent.now lots lot (contents_in facts (length torrent.now.files)))
+        × (first_lot_fault facts torrent.now lots lot ≡ None))
+        (IsFault (first_lot_fault facts torrent.now lots lot)) }
+    ensures counted { IfOk result (λ hashes. length hashes
+        ≡ first_of_lot torrent.now.piece_count lots (lot + 1) - first_of_lot torrent.now.piece_count lots lot) }
+    ensures cut { OnOk result (IsCut torrent.now) }
+    ensures allowed { IfErr result (λ error. error ≢ Workers) }
+    ensures of_lot { IfErr result (IsOfLot torrent.now lots lot) }
+    ensures gave { IfErr result (IsGiven (S.answers source.now) (length torrent.now.files)) }
+{
     let plan = plan_of(alloc, torrent, SPAN)?;
-    let count = torrent.piece_count() as usize;
-    let from = first_of_lot(count, lots, u64::from(lot));
-    let to = first_of_lot(count, lots, u64::from(lot) + 1);
+    let (from, to) = range_of_lot(torrent, lots, lot);
     let own = own_files(alloc, torrent, from, to)?;
     let some = OwnFiles { source, own: &own };
-    let found = match find_pieces_between(rt, alloc, &some, &plan, from, to, how) {
-        Ok(found) => found,
-        Err(error) => return Err(error.into()),
-    };
-    let hashes = PieceHashes::after(alloc, from, found.hashes)?;
-    let bits = verified_bits(alloc, torrent, &hashes)?;
-    Ok(bits_between(alloc, &bits, from, to)?)
+    match find_pieces_between(rt, alloc, &some, &plan, from, to, how) {
+        Ok(found) => Ok(found.hashes),
+        Err(error) => Err(error.into()),
+    }
 }
 
 /// The first piece of a lot, and the first after it. Lots are counted from 0; one may have no piece.
@@ -71,10 +121,22 @@ pub fn pieces_of_lot(torrent: &Torrent, lots: u32, lot: u32) -> (u64, u64)
     ensures first { result.0 ≡ first_of_lot torrent.now.piece_count lots lot }
     ensures after { result.1 ≡ first_of_lot torrent.now.piece_count lots (lot + 1) }
 {
+    let (first, after) = range_of_lot(torrent, lots, lot);
+    (first as u64, after as u64)
+}
+
+/// The first piece of a lot, and the first after it.
+fn range_of_lot(torrent: &Torrent, lots: u32, lot: u32) -> (usize, usize)
+    requires { lot < lots }
+    ensures first { result.0 ≡ first_of_lot torrent.now.piece_count lots lot }
+    ensures after { result.1 ≡ first_of_lot torrent.now.piece_count lots (lot + 1) }
+    ensures ordered { result.0 ≤ result.1 }
+    ensures within { result.1 ≤ torrent.now.piece_count }
+{
     let count = torrent.piece_count() as usize;
     let first = first_of_lot(count, lots, u64::from(lot));
     let after = first_of_lot(count, lots, u64::from(lot) + 1);
-    (first as u64, after as u64)
+    (first, after)
 }
 
 /// The first of so many pieces that a lot has; past the last lot, how many there are.
