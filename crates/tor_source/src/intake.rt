@@ -6,7 +6,7 @@ ghost use Rattle.tor_source.specs.Taking.{kept_both, kept_none};
 use std::alloc::AllocError;
 
 /// What takes the parts of an input, in order: a vector, which keeps them; `Dropped`, which does not; `FedSums`
-/// (`tor_meta`), which hashes them.
+/// (`tor_meta`), which hashes them; `Front` and `Text` (`tor_cli`), which keep what comes first.
 pub trait Intake {
     /// These bytes lead from one state to another.
     ghost takes: { Self → List ℕ → Self → Type 0 };

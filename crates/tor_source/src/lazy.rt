@@ -45,19 +45,6 @@ impl<R: Files> Model for LazyFile<R> {
 }
 
 impl<R: Files> LazyFile<R> {
-    /// The file at this place, of which nothing was read.
-    pub(crate) fn new(rt: R, place: String, listed: Option<ListedFile>) -> LazyFile<R>
-        ensures { result ≡ string_bytes place }
-    {
-        LazyFile {
-            rt,
-            place,
-            listed,
-            given: 0,
-            state: State::Unopened,
-        }
-    }
-
     // Opens the file if it was not opened yet.
     fn open(&mut self) -> io::Result<()> {
         if let State::Unopened = self.state {
@@ -96,20 +83,30 @@ fn reader_at<R: Files + Clone + Drop>(
 ) -> Result<LazyFile<R>, AllocError>
     ensures { IfOk result (λ reader. reader ≡ string_bytes place) }
 {
+    Ok(LazyFile {
+        rt: rt.clone()?,
+        place,
+        listed: listing_of(met, listed),
+        given: 0,
+        state: first_state(met),
+    })
+}
+
+// What is known of the file at a place before it is opened, by how it was met or by a listing.
+fn listing_of(met: Option<&Met>, listed: Option<ListedFile>) -> Option<ListedFile> {
     match met {
-        Some(Met::Regular(listed)) => Ok(LazyFile::new(rt.clone()?, place, Some(*listed))),
-        Some(_) => no_reader_of(rt, place),
-        None => Ok(LazyFile::new(rt.clone()?, place, listed)),
+        Some(Met::Regular(found)) => Some(*found),
+        Some(_) => None,
+        None => listed,
     }
 }
 
-// A reader of a place where no file is to be read: each read is a fault.
-fn no_reader_of<R: Files + Clone + Drop>(rt: &R, place: String) -> Result<LazyFile<R>, AllocError>
-    ensures { IfOk result (λ reader. reader ≡ string_bytes place) }
-{
-    let mut reader = LazyFile::new(rt.clone()?, place, None);
-    reader.state = State::Failed;
-    Ok(reader)
+// Not opened yet; or failed, if what was met is no regular file.
+fn first_state<F>(met: Option<&Met>) -> State<F> {
+    match met {
+        Some(Met::Regular(_)) | None => State::Unopened,
+        Some(_) => State::Failed,
+    }
 }
 
 // The file at a place, opened. One that was listed has to be as it was; of one that was not, and that tells of no byte,

@@ -6,7 +6,6 @@ use crate::faults::{ScanFault, is_absence};
 use crate::found::{FoundFiles, add_file, none_found, refuse_last};
 use crate::listed_file::ListedFile;
 use crate::open_folders::OpenFolders;
-use crate::place::Place;
 use crate::refused::{Refusal, kind_of};
 use std::alloc::{AllocError, Global};
 use std::io::{self, ErrorKind};
@@ -61,12 +60,11 @@ where
     ensures { IfOk result (HasLookedFor files.now) }
 {
     let mut leading = LeadingFolders::at_top(rt, alloc, root)?;
-    let found = find_from_top(rt, alloc, &mut leading, files)?;
-    leading.open.judge_top(rt)?;
-    Ok(found)
+    find_from_top(rt, alloc, &mut leading, files)
 }
 
-// What is found of these files, which are looked for from the top folder on.
+// What is found of these files, looked for from the top folder on, which has to be at its place still when all were
+// looked for.
 fn find_from_top<R: Files>(
     rt: &R,
     alloc: Global,
@@ -82,6 +80,7 @@ where
         let sought = look_for(rt, alloc, leading, file.names())?;
         settle(alloc, sought, file, &mut found)?;
     }
+    leading.open.judge_top(rt)?;
     Ok(found)
 }
 
@@ -150,9 +149,7 @@ where
     if let Some(refusal) = go_on(rt, alloc, leading, folders)? {
         return Ok(Sought::NotTaken(refusal));
     }
-    let mut place = Place::new();
-    leading.open.write_place(names, &mut place)?;
-    let metadata = rt.symlink_metadata(place.as_str())?;
+    let metadata = leading.open.metadata_of(rt, names)?;
     if !metadata.is_file() {
         return Ok(Sought::NotTaken(Refusal::NotRegular(kind_of(&metadata))));
     }
@@ -183,11 +180,9 @@ fn go_on<R: Files>(
 where
     R::File: AsRawFd,
 {
-    let mut place = Place::new();
     for depth in leading.names.len()..folders.len() {
         let (above, _) = folders.split_at(depth + 1);
-        leading.open.write_place(above, &mut place)?;
-        let metadata = rt.symlink_metadata(place.as_str())?;
+        let metadata = leading.open.metadata_of(rt, above)?;
         if metadata.is_file() {
             return Ok(Some(Refusal::Missing));
         }

@@ -98,10 +98,17 @@ where
         self.below.truncate(depth);
     }
 
-    /// Writes where the system is asked for what these names lead to: in the last folder that is held open. What is in
-    /// the top one is asked for at its own place, if that is not too long: it takes half the time, and no link below
-    /// the top folder is on that way.
-    pub(crate) fn write_place(&self, names: &[Name], place: &mut Place) -> io::Result<()> {
+    /// What the system tells of what these names lead to: of a link there, of the link itself.
+    pub(crate) fn metadata_of(&self, rt: &R, names: &[Name]) -> io::Result<Metadata> {
+        let mut place = Place::new();
+        self.write_place(names, &mut place)?;
+        rt.symlink_metadata(place.as_str())
+    }
+
+    // Writes where the system is asked for what these names lead to: in the last folder that is held open. What is in
+    // the top one is asked for at its own place, if that is not too long: it takes half the time, and no link below
+    // the top folder is on that way.
+    fn write_place(&self, names: &[Name], place: &mut Place) -> io::Result<()> {
         if names.len() == 1 && place.write(without_slash(&self.root), names).is_ok() {
             return Ok(());
         }

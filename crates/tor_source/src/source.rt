@@ -8,8 +8,8 @@ use std::fmt::Debug;
 /// Files by their numbers, of which it tells the lengths and the bytes.
 ///
 /// `FolderSource` (`folder.rt`) has files of the system; `MemSource`, `FailSource` and `ShortSource` have files in
-/// memory. Two stand before another source: `Indexed` (`tor_meta`) gives its files other numbers, `Counting`
-/// (`tor_cli`) counts what is read.
+/// memory. Three stand before another source: `Indexed` (`tor_meta`) gives its files other numbers, `Counting`
+/// (`tor_cli`) counts what is read, and `OwnFiles` (`tor_recheck`) has some of its files alone.
 ///
 /// A source is steady if it answers by facts that stay: for each file a content, or none if it is missing, and the
 /// offsets that fail, each with its fault. Then `length` tells how long the content is, or the fault of the length,

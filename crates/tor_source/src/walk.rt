@@ -12,7 +12,6 @@ use crate::folder_names::rising_names;
 use crate::found::{FoundFiles, add_file, none_found, refuse, refuse_last};
 use crate::listed_file::ListedFile;
 use crate::open_folders::OpenFolders;
-use crate::place::Place;
 use crate::refused::{Refusal, kind_of};
 use std::alloc::{AllocError, Global};
 use std::io::{self, ErrorKind};
@@ -200,9 +199,7 @@ where
     R::File: AsRawFd,
     ensures { IfOk result (IsStanding (length names.now)) }
 {
-    let mut place = Place::new();
-    open.write_place(names, &mut place)?;
-    let metadata = rt.symlink_metadata(place.as_str())?;
+    let metadata = open.metadata_of(rt, names)?;
     if metadata.is_dir() {
         let folder = open.enter(rt, alloc, names, &metadata)?;
         return Ok(Standing::Folder(rising_names(alloc, folder)?));

@@ -1,4 +1,5 @@
 -- What one read gave stands behind what came before it.
+use Rattle.std.proofs.lemmas.Grind.{common_steps}
 use Rattle.std.proofs.Common.{◌≡◌, ◌+◌, ◌-◌, ◌++◌, List, ℕ, length, take, arith, ap, length-append, length-take}
 use Rattle.std.proofs.Common.{subst, sym, ◌∙◌}
 use Rattle.std.proofs.KnownBytes.{Consumes-trans}
@@ -50,3 +51,6 @@ reads-preserved g c =
           (Consumes-trans (remaining c.args.reader.now) (remaining c.reads.reader)
           (remaining c.read_once.new.reader) front came given c.in-Ok.ensures.given);
     }
+
+pub returns-then-count-eq0-clause-given : goal.returns-then-count-eq0-clause-given
+returns-then-count-eq0-clause-given g c = grind (arith, common_steps)

@@ -1,4 +1,5 @@
 use Rattle.std.proofs.Common.{[], arith, ap, length, ◌∙◌}
+use Rattle.std.proofs.lemmas.Grind.{common_steps}
 use Rattle.std.proofs.lemmas.List.{length_push}
 use Rattle.std.proofs.lemmas.Result.{err_from_is_err_and}
 use Rattle.tor_tree.specs.Name.{slash}
@@ -36,3 +37,12 @@ returns-in_err-append-3-clause-refused _ c =
             c.loop-name-test.true,
       ),
     )
+
+pub loop-name-preserved : goal.loop-name-preserved
+loop-name-preserved _ c = grind (arith, common_steps)
+
+pub returns-in_err-append-clause-refused : goal.returns-in_err-append-clause-refused
+returns-in_err-append-clause-refused g c = grind (arith, common_steps)
+
+pub returns-clause-written : goal.returns-clause-written
+returns-clause-written g c = grind (arith, common_steps)
