@@ -1,4 +1,5 @@
-//! The command line: what the words ask for. Here stand help and the version; each command has a file of its own.
+//! What the words ask for: a `Request`. Which words there are, `tor_words` tells; what those of a command ask for, a
+//! file of the command reads.
 ghost use Rattle.clap.specs.Walk.{texts};
 ghost use Rattle.clap.specs.Words.{first_of, found_of, rows_of, subcommand_rows_of};
 ghost use Rattle.std.specs.Prelude.{◌≡◌, IfErr, IfOk, IfSome, None, Ok, Some, codes};

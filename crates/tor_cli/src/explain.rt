@@ -1,5 +1,7 @@
 //! Why the program stopped, in words: the second line, which a terminal gets, and whoever gives `--explain`.
 //!
+//! Whether it is asked for is looked at in each run (`asks_why`).
+//!
 //! No fault has the place that it is of, and most have no reason of the system's. So what the words name is looked at
 //! once more: FILE, PATH, and the lists that are files.
 //!

@@ -16,7 +16,7 @@ use tor_source::ScanFault;
 use tor_tree::NameError;
 
 /// What can stop the program. Want of memory is `Resources`, wherever it comes.
-#[derive(Debug, Drop)]
+#[derive(Drop)]
 pub enum Fault {
     /// The words ask for nothing that there is: the line.
     Usage(String),
@@ -165,11 +165,11 @@ impl fmt::Display for Fault {
     fn fmt<W: fmt::Write>(&self, f: &mut fmt::Formatter<W>) -> fmt::Result {
         match self {
             Fault::Usage(line) => f.write_str(line.as_str()),
-            Fault::Name(fault) => write!(f, "{fault}"),
-            Fault::Scan(fault) => write!(f, "{fault}"),
+            Fault::Name(fault) => fmt::Display::fmt(fault, f),
+            Fault::Scan(fault) => fmt::Display::fmt(fault, f),
             Fault::Make(error) => write_error(error, f),
-            Fault::Refused(refusal) => write!(f, "{refusal}"),
-            Fault::Piece(error) => write!(f, "{error}"),
+            Fault::Refused(refusal) => fmt::Display::fmt(refusal, f),
+            Fault::Piece(error) => fmt::Display::fmt(error, f),
             Fault::Recheck(error) => write_recheck_error(error, f),
             Fault::Plan(error) => write_plan_error(error, f),
             Fault::Join(error, part) => write_join_error(error, part, f),
@@ -177,7 +177,7 @@ impl fmt::Display for Fault {
                 write!(f, "not as made: {good} of {pieces} pieces")
             }
             Fault::OutAmongFiles => f.write_str("out among files"),
-            Fault::Argument(fault) => write!(f, "{fault}"),
+            Fault::Argument(fault) => fmt::Display::fmt(fault, f),
             Fault::Read(_) => f.write_str("read fault"),
             Fault::TooLong => f.write_str("input too long"),
             Fault::Write(stop) => write!(f, "write fault after {} bytes", stop.written()),
@@ -193,7 +193,7 @@ fn write_error<W: fmt::Write>(
 ) -> fmt::Result {
     match error {
         MakeError::Hashing(fault) => write_file_fault(fault, f),
-        refusal => write!(f, "{refusal}"),
+        refusal => fmt::Display::fmt(refusal, f),
     }
 }
 
@@ -207,7 +207,7 @@ fn write_file_fault<W: fmt::Write>(
         EngineError::Changed { file }
         | EngineError::Missing { file }
         | EngineError::StreamTooLong { file } => write!(f, "{fault} file {file}"),
-        EngineError::Resources => write!(f, "{fault}"),
+        EngineError::Resources => fmt::Display::fmt(fault, f),
     }
 }
 
@@ -220,7 +220,7 @@ fn write_recheck_error<W: fmt::Write>(
     match error {
         RecheckError::Read { file, start, .. } => write_read_error(error, *file, *start, f),
         RecheckError::Changed { file } => write!(f, "{error} file {file}"),
-        other => write!(f, "{other}"),
+        other => fmt::Display::fmt(other, f),
     }
 }
 

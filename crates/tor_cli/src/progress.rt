@@ -1,4 +1,4 @@
-//! The line on a terminal that shows how far the reading of files is.
+//! How far the reading of files is: what is read is counted in each run, and shown in a line on a terminal.
 //!
 //! - `line.rt`: its text; `watch.rt`: the time that has gone.
 ghost use Rattle.std.specs.Prelude.{◌≡◌};

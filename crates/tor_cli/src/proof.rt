@@ -1,6 +1,7 @@
 //! The commands `prove` and `verify`.
 //!
-//! - `prove.rt`, `verify.rt`: each of them; `words.rt`: their words; `claim.rt`: what those of `verify` claim.
+//! - `prove.rt`, `verify.rt`: each of them; `words.rt`: what their words ask for; `claim.rt`: what those of `verify`
+//!   claim.
 //! - `text.rt`: a proof as a text, both ways.
 
 pub(crate) mod claim;

@@ -1,5 +1,5 @@
 //! What a terminal is shown of names in lines: no character that drives it, and none by which it shows a line in
-//! another order.
+//! another order. All output passes here; if no terminal shows it, its bytes stay as they are.
 //!
 //! Lines have no control byte of ASCII. But in UTF-8 there are control characters of two bytes, from U+0080 to U+009F,
 //! and those that turn the direction of what follows, from U+202A to U+202E and from U+2066 to U+2069.

@@ -4,7 +4,7 @@ use std::marker::Model;
 use tor_meta::WriteFault;
 
 /// How many bytes went out before a write failed, and why it did, if the system told. Contracts see the number.
-#[derive(Debug, Drop)]
+#[derive(Drop)]
 pub struct Unwritten {
     written: u64,
     reason: Option<Error>,

@@ -10,7 +10,7 @@ use std::alloc::{AllocError, AllocFailed, Global};
 use tor_tree::{FilePath, NameError};
 
 /// Why bytes are no list of files.
-#[derive(Debug, Drop)]
+#[derive(Drop)]
 pub enum PathsFault {
     /// A part of a path is no name.
     Name(NameError),

@@ -22,7 +22,7 @@ pub struct Claim {
 }
 
 /// Which argument is none of its kind: of `verify`, `--attrs` or `--files-from`.
-#[derive(Clone, Copy, Debug)]
+#[derive(Clone, Copy)]
 pub enum ArgumentFault {
     Root,
     Length,

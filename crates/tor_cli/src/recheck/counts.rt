@@ -17,7 +17,7 @@ use tor_recheck::{Bits, RecheckError, recheck};
 use tor_source::Source;
 
 /// How many pieces are there and right, of how many.
-#[derive(Clone, Copy, Debug, PartialEq, Eq)]
+#[derive(Clone, Copy, PartialEq, Eq)]
 pub struct PieceCounts {
     pub good: u64,
     pub pieces: u64,

@@ -1,4 +1,5 @@
 -- The first that is refused is one of the chosen.
+use Rattle.std.proofs.lemmas.Grind.{common_steps}
 use Rattle.std.proofs.Common.{◌<◌, arith, length, map, rules}
 use Rattle.std.proofs.lemmas.List.{length-map}
 use Rattle.tor_source.specs.Named.{path_of}
@@ -15,3 +16,9 @@ returns-in-Some-clause-stopped c name attrs =
     let taken : length c.deref-in-Some.result.now < length c.args.chosen.items =
     rw c.deref-in-Some.ensures.value fewer in
     c.in_ok-first_refusal.ensures name c.args.chosen.items attrs taken
+
+pub returns-clause-paths : goal.returns-clause-paths
+returns-clause-paths c = grind (arith, common_steps)
+
+pub returns-clause-each : goal.returns-clause-each
+returns-clause-each c = grind (arith, common_steps)

@@ -1,4 +1,5 @@
 -- A part that a zero byte ends for each path.
+use Rattle.std.proofs.lemmas.Grind.{common_steps}
 use Rattle.std.proofs.Common.{◌≡◌, ◌⊎◌, length, ◌<◌, [], ◌∷◌, ◌++◌, arith, List, ℕ, Some, None, sym, ap, ◌∙◌, inl, inr}
 use Rattle.std.proofs.Common.{length-append, refl}
 use Rattle.std.proofs.lemmas.Bool.Decides.{nat_tests}
@@ -80,3 +81,9 @@ returns-clause-read c all each same =
     let none : length c.paths.rest.now ≡ 0 = grind (arith, nat_tests) in
     none_left IsFilePath listed_path some_bytes all c.paths.paths.items c.paths.rest.now
     (c.paths.invariant.left all each (sym same)) none
+
+pub paths-smaller : goal.paths-smaller
+paths-smaller c = grind (arith, common_steps)
+
+pub returns-clause-written : goal.returns-clause-written
+returns-clause-written c = grind (arith, common_steps)

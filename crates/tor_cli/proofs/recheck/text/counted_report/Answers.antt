@@ -1,5 +1,6 @@
 -- So many workers are allowed where something is found by them.
-use Rattle.std.proofs.Common.{[], ◌≡◌, ◌∙◌, Bool, List, ap, refl, subst, sym}
+use Rattle.std.proofs.Common.{[], ◌≡◌, ◌∙◌, Bool, List, ap, refl, subst, sym, arith}
+use Rattle.std.proofs.lemmas.Grind.{common_steps}
 use Rattle.std.specs.Prelude.{OnOk}
 use Rattle.tor_recheck.specs.declared.files.FileFound.{FileFound}
 use Rattle.tor_recheck.specs.declared.files.FileState.TheVariants.{Link}
@@ -47,3 +48,6 @@ returns-in-Ok-clause-found g c allowed facts steady =
     let linked = c.with_links-files.ensures ∙ ap (with_state Link c.args.links.now) files in
     let is = λ (bits : List Bool) (files : List FileFound). IsReportOf bits files c.report_of.result in
     (of_both is _ _ _ _ bits linked c.report_of.ensures, none)
+
+pub returns-in-Err-clause-found : goal.returns-in-Err-clause-found
+returns-in-Err-clause-found g c = grind (arith, common_steps)

@@ -1,5 +1,6 @@
 -- Some files are unreadable, and some are links.
-use Rattle.std.proofs.Common.{ap, map, subst, sym, true≢false, ◌∙◌, List}
+use Rattle.std.proofs.Common.{ap, map, subst, sym, true≢false, ◌∙◌, List, arith}
+use Rattle.std.proofs.lemmas.Grind.{common_steps}
 use Rattle.tor_recheck.specs.declared.files.FileFound.{FileFound}
 use Rattle.tor_recheck.specs.declared.files.FileState.TheVariants.{Link, Unreadable}
 use Rattle.tor_sums.specs.How.{IsHow}
@@ -38,3 +39,6 @@ returns-in-Ok-clause-found g c allowed facts steady =
     let (bits, files, faults) = c.in-Ok.ensures.found how facts steady in
     rw (sym bits, sym files, sym faults)
     (subst (λ (files : List FileFound). IsReportOf found.bits files c.report_of.result) marked c.report_of.ensures)
+
+pub returns-in-Err-clause-found : goal.returns-in-Err-clause-found
+returns-in-Err-clause-found g c = grind (arith, common_steps)

@@ -1,0 +1,7 @@
+-- A search fails at these goals before `grind` finds the proof.
+use Rattle.std.proofs.Common.{arith}
+use Rattle.std.proofs.lemmas.Grind.{common_steps}
+use Rattle.tor_cli.proofs.recheck.extra_text.paths_value.Goals as goal
+
+pub paths-preserved : goal.paths-preserved
+paths-preserved c = grind (arith, common_steps)
