@@ -1,5 +1,6 @@
 -- What is kept at the indices of keys.
 use Rattle.tor_check.proofs.Names.{◌≡◌, ℕ, zero, suc, List, [], ◌∷◌, Some, ◌⊎◌, inl, inr, ap, refl, subst, sym, ◌∙◌}
+use Rattle.tor_check.proofs.Names.{Bool, true, false, Option, None, unwrap_or}
 use Rattle.tor_check.proofs.Names.{none-some, same_Some, slice_get, replicate, Data, IsKept, keys_in}
 use Rattle.std.proofs.Math.ListN.{set}
 
@@ -7,6 +8,11 @@ get_replicate : {X : Type 0} (n : ℕ) (x : X) (i : ℕ) (y : X) → slice_get (
 get_replicate zero x i y e = absurd (none-some y e)
 get_replicate (suc n) x zero y e = same_Some x y e
 get_replicate (suc n) x (suc i) y e = get_replicate n x i y e
+
+-- a mark that is there and set
+pub mark_is_set : (mark : Option Bool) → unwrap_or mark false ≡ true → mark ≡ Some true
+mark_is_set None e = absurd cc
+mark_is_set (Some mark) e = ap Some e
 
 -- what a list has that was changed in one place
 get_set : {X : Type 0} (xs : List X) (i : ℕ) (x : X) (j : ℕ) (y : X) → slice_get (set xs i x) j ≡ Some y

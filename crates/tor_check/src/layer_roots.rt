@@ -1,6 +1,7 @@
 //! Whether each piece layer has the length and the root of its files (BEP 52, "piece layers"). A layer is hashed once,
 //! however many files have its root.
 ghost use Rattle.std.specs.Prelude.{◌≡◌, ◌==◌, ◌≤◌, ◌<◌, ◌*◌, ℕ, Bool, false, not, Some, All, length, slice_get};
+ghost use Rattle.std.specs.Prelude.{unwrap_or};
 ghost use Rattle.std.specs.Int.{div_ceil};
 ghost use Rattle.std.specs.List.{list_any};
 ghost use Rattle.std.specs.Str.{bytes_eq};
@@ -62,7 +63,7 @@ fn has_faulty_layer(layers: &Layers<'_, '_>, file: &TreeFile, judged: &mut [bool
     if has_other_length(layers.piece_length, text, file) {
         return true;
     }
-    if judged.get(index) == Some(&true) {
+    if is_marked(judged, index) {
         return false;
     }
     if is_other(layers.piece_length, text, file) {
@@ -72,6 +73,13 @@ fn has_faulty_layer(layers: &Layers<'_, '_>, file: &TreeFile, judged: &mut [bool
         judged[index] = true;
     }
     false
+}
+
+/// Whether the mark at an index is there and set.
+fn is_marked(judged: &[bool], index: usize) -> bool
+    ensures { result ≡ unwrap_or (slice_get judged.now index) false }
+{
+    index < judged.len() && judged[index]
 }
 
 /// Whether the text of a layer is not 32 bytes for each piece of a file.

@@ -3,6 +3,7 @@ pub use Rattle.std.proofs.Common.{Bool, Equal, Global, Greater, Less, List, None
 pub use Rattle.std.proofs.Common.{append-nil, append_assoc, ap₂, arith, codes, cond, drop, false, get_or, inl, inr}
 pub use Rattle.std.proofs.Common.{length, map, not, option_map, refl, rules, subst, suc, sym, take, true, true≢false}
 pub use Rattle.std.proofs.Common.{unwrap_or, zero, ℕ, ◌&&◌, ◌++◌, ◌+◌, ◌-◌, ◌<◌, ◌^◌, ◌||◌, ◌∙◌, ◌∷◌, ◌≡◌, ◌≢◌, ◌≤◌}
+pub use Rattle.std.proofs.Common.{Err}
 pub use Rattle.std.proofs.Math.Seq.{take-add}
 pub use Rattle.std.proofs.lemmas.Bool.{cases_Bool, false_from_ne_true, false≢true}
 pub use Rattle.std.proofs.lemmas.Fmt.{decimal-digits_of, decimal_digit}
@@ -32,6 +33,7 @@ pub use Rattle.tor_bencode.specs.Spelling.{pairs_spelling, spelling, string_spel
 pub use Rattle.tor_bencode.specs.declared.item_ref.ItemRef.{Dict, ItemRef, the_lemmas as ref_lemmas}
 pub use Rattle.tor_spec.specs.Dictionary.{put}
 pub use Rattle.tor_bencode.specs.declared.TheConstants.{MAX_NESTING}
+pub use Rattle.tor_check.specs.Valid.{IsRefusedFor, of_bencode}
 pub use Rattle.tor_edit.specs.Tracker.{announced, tracker_edited, without}
 pub use Rattle.tor_edit.specs.steps.Cut.{after, before, joined, tracker_pair}
 pub use Rattle.tor_spec.specs.valid.Conditions.{Condition, IsTorrentOf, IsValid, conditions, holds, of_both, of_list}

@@ -30,6 +30,7 @@ pub mod SameRows
 pub mod SeatAnswers
 pub mod SharedContents
 pub mod SeenLengths
+pub mod Stopped
 pub mod Stopping
 pub mod TogetherFound
 pub mod TogetherPieces

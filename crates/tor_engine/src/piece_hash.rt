@@ -33,7 +33,7 @@ pub struct PieceHash {
 }
 
 /// What is known of a piece while the worker that has read it owes sums.
-#[derive(Clone, Copy, Debug, PartialEq, Eq)]
+#[derive(Clone, Copy, PartialEq, Eq)]
 pub(crate) enum FoundPiece {
     /// Some byte of it is not there.
     Missing,

@@ -16,7 +16,8 @@ use tor_plan::PlanUnit;
 use tor_sums::{EngineError, OwingSums};
 
 /// What a worker does with each of its units: `SumWork` (`sum_work.rt`) hashes it for the sums of files, `PieceWork`
-/// (`piece_work.rt`) hashes those of its pieces that are there, each by itself.
+/// (`piece_work.rt`) hashes those of its pieces that are there, as one if all are, and `ReadableWork`
+/// (`readable_work.rt`) those that can be read.
 pub(crate) trait UnitWork {
     /// The fault of the source.
     type Fault: Debug + Drop;

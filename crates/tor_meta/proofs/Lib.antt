@@ -35,4 +35,3 @@ pub mod PlanTriples
 pub mod ProvedLaws
 pub mod ListSteps
 pub mod FirstFaults
-pub mod Stopped

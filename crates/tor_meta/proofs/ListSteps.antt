@@ -1,9 +1,7 @@
 -- One more item of a list that is made item by item.
-use Rattle.std.proofs.Common.{◌≡◌, ◌∙◌, ◌+◌, ◌<◌, ◌++◌, ◌∷◌, [], ℕ, Global, List, Vec, ap, ap₂, get_or, length}
+use Rattle.std.proofs.Common.{◌≡◌, ◌∙◌, ◌+◌, ◌<◌, ◌++◌, ◌∷◌, [], ℕ, Global, List, Vec, ap₂, get_or, length}
 use Rattle.std.proofs.Common.{map, rules, sym, take}
-use Rattle.std.proofs.lemmas.List.{append-nil, map-append, map_more, take_more}
-use Rattle.std.proofs.lemmas.Grind.{flat_map-append}
-use Rattle.std.specs.List.{flat_map}
+use Rattle.std.proofs.lemmas.List.{map-append, map_more}
 use Rattle.tor_bencode.specs.Data.{list}
 use Rattle.tor_bencode.specs.View.{items_view, view}
 use Rattle.tor_bencode.specs.declared.item.Item.{Item, List as ListItem, the_lemmas}
@@ -21,14 +19,6 @@ pub seen_more : {X A Y : Type 0} (see : A → Y) (f : X → Y) (xs : List X) (i 
     → map see (old ++ a ∷ []) ≡ map f (take (i + 1) xs)
 seen_more see f xs i d old a within before same =
     map-append see old (a ∷ []) ∙ made_more f xs i d (map see old) (see a) within before same
-
--- of lists that are joined
-pub joined_more : {X A : Type 0} (f : X → List A) (xs : List X) (i : ℕ) (d : X) (old : List A)
-    → i < length xs → old ≡ flat_map f (take i xs)
-    → old ++ f (get_or xs i d) ≡ flat_map f (take (i + 1) xs)
-joined_more f xs i d old within before =
-    ap₂ (λ ys zs. ys ++ zs) before (sym (append-nil (f (get_or xs i d))))
-    ∙ sym (flat_map-append f (take i xs) (get_or xs i d ∷ [])) ∙ ap (flat_map f) (sym (take_more xs i d within))
 
 -- of items that are made of those that were taken so far
 pub taken_more : {X Y : Type 0} (f : X → Y) (xs : List X) (x : X) (old : List Y) (y : Y) → old ≡ map f xs → y ≡ f x

@@ -25,7 +25,7 @@ use tor_bencode::{BenError, ItemRef, decode_ref};
 use tor_tree::{Attr, FilePath, Kind, Name, NameError};
 
 /// What a plan tells, not judged.
-#[derive(Debug, Drop)]
+#[derive(Drop)]
 pub(crate) struct PlanParts {
     pub(crate) head: Head,
     pub(crate) span: u32,

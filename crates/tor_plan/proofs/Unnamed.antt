@@ -1,5 +1,5 @@
 -- Files without padding, of whose entries only the lengths count.
-use Rattle.tor_plan.proofs.Names.{◌≡◌, ◌≢◌, ℕ, ◌+◌, ◌<◌, ◌≤◌, true, false, List, [], ◌∷◌, length, get_or, map, sum}
+use Rattle.tor_plan.proofs.Names.{◌≡◌, ◌≢◌, ℕ, ◌+◌, ◌<◌, ◌≤◌, false, List, [], ◌∷◌, length, get_or, map, sum}
 use Rattle.tor_plan.proofs.Names.{arith}
 use Rattle.tor_plan.proofs.Names.{refl, ap, ◌∙◌, sym, All, sum-map, get_or-map, true≢false, MAX_LENGTH}
 use Rattle.tor_plan.proofs.Names.{MAX_TOTAL, Entry, Kind, V1, V2, Hybrid, file_entries, file_entry, entries_length}

@@ -55,6 +55,17 @@ stop_last {took = took} {fails = fails} law (Err e) done last whole out mid out'
     subst (λ (xs : List ℕ). Stops took fails xs out b out' e.written) split
     (stops_later law done last out mid out' b m e.written one stop)
 
+-- ---- the same text, written another way
+
+module _ {S : Type 0} {took : S → S → List ℕ → Type 0} {fails : S → List ℕ → Type 0} (law : IsSink took fails)
+    {A : Type 0} (r : Result A WriteFault) (text whole : List ℕ) (out out' : S) (b : Buffer) (same : text ≡ whole) where
+  pub put_same : (b' : Buffer) → OnOk r (Puts took text out b out' b') → OnOk r (Puts took whole out b out' b')
+  put_same b' put = subst (λ (xs : List ℕ). OnOk r (Puts took xs out b out' b')) same put
+
+  pub stop_same : IfErr r (λ fault. Stops took fails text out b out' fault.written)
+      → IfErr r (λ fault. Stops took fails whole out b out' fault.written)
+  stop_same stop = subst (λ (xs : List ℕ). IfErr r (λ fault. Stops took fails xs out b out' fault.written)) same stop
+
 -- ---- the last of three
 
 module _ {S : Type 0} {took : S → S → List ℕ → Type 0} {fails : S → List ℕ → Type 0} (law : IsSink took fails)

@@ -71,6 +71,10 @@ files_text files others first pieces of_others of_first is same =
     array_text placed_data (zip files pieces) (zip others of_others) (first, of_first)
     (ap₂ (λ (xs : List FileView) (ys : List PiecedFile). zip xs ys) is same)
 
+pub no_array : {X : Type 0} (tell : X → Data) (xs : List X) → xs ≡ []
+    → codes "[]" ≡ compact_text (array (items_of (map tell xs)))
+no_array tell xs none = rw none refl
+
 pub without_files : (files : List FileView) (pieces : List PiecedFile) → files ≡ []
     → codes "[]" ≡ compact_text (files_data files pieces)
 without_files files pieces none = rw none refl

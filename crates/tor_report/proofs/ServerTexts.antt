@@ -1,6 +1,6 @@
 -- What is told of the servers that a torrent names.
-use Rattle.std.proofs.Common.{◌≡◌, ◌∙◌, refl, sym, ap, Bool, true, List, [], ◌∷◌, ◌++◌, map, rules, Vec, Global}
-use Rattle.std.proofs.lemmas.Bool.{cond-true}
+use Rattle.std.proofs.Common.{◌≡◌, ◌∙◌, refl, sym, ap, Bool, false, true, List, [], ◌∷◌, ◌++◌, map, rules, Vec, Global}
+use Rattle.std.proofs.lemmas.Bool.{cond-false, cond-true}
 use Rattle.std.proofs.lemmas.List.Folds.{list_all-map}
 use Rattle.std.specs.List.{list_all}
 use Rattle.std.specs.Prelude.{◌&&◌, Option, Some}
@@ -66,3 +66,7 @@ told_if test tell found value is holds =
 pub one_url : (value : Tree) → is_string value ≡ true
     → (91 ∷ compact_text (text_data value)) ++ 93 ∷ [] ≡ compact_text (urls_data value)
 one_url value holds = ap compact_text (sym (cond-true (is_string value) _ _ holds))
+
+pub many_urls : (value : Tree) → is_string value ≡ false
+    → compact_text (texts_data value) ≡ compact_text (urls_data value)
+many_urls value fails = ap compact_text (sym (cond-false (is_string value) _ _ fails))

@@ -6,7 +6,7 @@ use crate::lane_span::lane_span;
 use tor_tree::Kind;
 
 /// How contents are cut into chunks: each by itself if the kind has trees, otherwise all as one.
-#[derive(Clone, Copy, Debug)]
+#[derive(Clone, Copy)]
 pub(crate) struct Chunking {
     pub(crate) kind: Kind,
     /// The bytes of a piece.

@@ -4,7 +4,6 @@ use Rattle.std.proofs.Common.{refl, ap, ap₂, sym, subst, ◌∙◌, append_ass
 use Rattle.std.proofs.Common.{◌<◌, get_or, set, suc, sum_by, drop-drop}
 use Rattle.std.proofs.lemmas.List.{drop-set-lt, drop_at, drop_more, length-drop, take_at, take_more_set, with_items_is}
 use Rattle.std.proofs.lemmas.List.Sums.{sum_by-cons}
-use Rattle.std.specs.Vec.{with_items}
 use Rattle.tor_plan.specs.PlanFacts.{PlanFacts}
 use Rattle.tor_plan.specs.declared.units.PlanUnit.{PlanUnit}
 use Rattle.tor_source.specs.Source.{SourceFacts}

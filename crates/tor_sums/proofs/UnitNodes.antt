@@ -1,11 +1,10 @@
 -- What one unit gives to the tree of its file.
 use Rattle.std.proofs.Common.{◌≡◌, ◌≢◌, ◌≤◌, ℕ, zero, suc, ◌+◌, true, List, [], ◌∷◌, ◌++◌, length, map, take, drop}
-use Rattle.std.proofs.Common.{get_or, cond, Option, None, Some, append-nil, replicate, refl, inl, inr, arith, ap, subst}
+use Rattle.std.proofs.Common.{get_or, cond, Option, None, Some, append-nil, replicate, refl, arith, ap, subst}
 use Rattle.std.proofs.Common.{sym, ◌∙◌}
 use Rattle.std.specs.List.{AllByRecursion, flat_map}
 use Rattle.std.specs.Option.{ForSome}
 use Rattle.std.proofs.Math.Seq.{drop-append_seam}
-use Rattle.std.proofs.lemmas.Bool.{cases_Bool}
 use Rattle.std.proofs.lemmas.List.{length-drop, length-replicate, length-take-le, take_all}
 use Rattle.std.proofs.lemmas.List.Elements.{recursion_from_All}
 use Rattle.std.proofs.lemmas.List.Sums.{sum_by-cons}
@@ -17,7 +16,6 @@ use Rattle.tor_plan.specs.declared.units.PlanUnit.{PlanUnit}
 use Rattle.tor_source.specs.Source.{SourceFacts}
 use Rattle.tor_tree.specs.Kinds.{has_v2}
 use Rattle.tor_sums.specs.Hasher.{IsTreeOf}
-use Rattle.tor_sums.specs.declared.worker.WorkerSums.{WorkerSums}
 use Rattle.tor_sums.specs.steps.Hashes.{Node, bytes_of_part, level_in, level_of, node_of_part, node_over}
 use Rattle.tor_sums.specs.steps.Hashes.{nodes_of_unit}
 use Rattle.tor_sums.specs.steps.Reads.{HaveRead, PartRead}

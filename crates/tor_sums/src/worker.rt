@@ -1,4 +1,4 @@
-//! What the units of a worker hash to, while their bytes are read.
+//! What the units of a worker hash to, while their bytes are read or handed over.
 ghost use Rattle.std.specs.Prelude.{◌≡◌, ◌+◌, ◌*◌, ◌-◌, ◌<◌, ◌≤◌, ◌++◌, [], ℕ, List, IfErr, IfOk, MatchResult, OnOk};
 ghost use Rattle.std.specs.Prelude.{length, max, slice_index_or, take, if◌then◌else◌};
 ghost use Rattle.std.specs.Option.{ForSome};

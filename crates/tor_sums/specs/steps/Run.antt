@@ -15,10 +15,9 @@ use Rattle.tor_source.specs.Source.{SourceFacts}
 use Rattle.tor_tree.specs.Kinds.{has_v1, has_v2}
 use Rattle.tor_tree.specs.declared.kinds.Kind.{Kind}
 use Rattle.tor_v1.specs.Piece.{piece_sums}
-use Rattle.tor_sums.specs.declared.hasher.Hashed.{Hashed}
 use Rattle.tor_sums.specs.declared.unit_sums.UnitSums.{UnitSums}
 use Rattle.tor_sums.specs.declared.worker.WorkerSums.{WorkerSums}
-use Rattle.tor_sums.specs.Hasher.{AreHashesOf, IsTreeOf}
+use Rattle.tor_sums.specs.Hasher.{IsTreeOf}
 pub use Rattle.tor_sums.specs.UnitSums.{bare_node, node_in}
 use Rattle.tor_sums.specs.steps.Hashes.{Node, bytes_of_part, level_of, nodes_of_unit}
 use Rattle.tor_sums.specs.steps.Reads.{AreReads, HaveRead, PartRead}

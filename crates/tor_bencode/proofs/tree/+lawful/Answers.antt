@@ -1,3 +1,4 @@
+use Rattle.std.proofs.lemmas.Grind.{common_steps}
 use Rattle.tor_bencode.proofs.Names.{◌≡◌, ap, ◌∙◌, sym, subst, arith, false≢true, dictionary, keys_of, AreRising}
 use Rattle.tor_bencode.proofs.Names.{IsLawfulWithin, view, items_view, list, pairs_view}
 use Rattle.tor_bencode.proofs.Lawfulness.{lawful-dictionary, lawful-list}
@@ -64,3 +65,22 @@ is_lawful-returns-then-keys_rise t c =
       ],
       λ h. c.values_are_lawful.ensures.1 (lawful.0 (subst (IsLawfulWithin c.args.room) seen h)).2,
     )
+
+-- A search fails at the loops' goals first, which takes longer than the proof.
+pub all_are_lawful-returns : goal.all_are_lawful-returns
+all_are_lawful-returns t c = grind (arith, common_steps)
+
+pub values_are_lawful-returns : goal.values_are_lawful-returns
+values_are_lawful-returns t c = grind (arith, common_steps)
+
+pub all_are_lawful-loop-item-preserved : goal.all_are_lawful-loop-item-preserved
+all_are_lawful-loop-item-preserved t c = grind (arith, common_steps)
+
+pub values_are_lawful-loop-value-preserved : goal.values_are_lawful-loop-value-preserved
+values_are_lawful-loop-value-preserved t c = grind (arith, common_steps)
+
+pub all_are_lawful-returns-then-not-is_lawful : goal.all_are_lawful-returns-then-not-is_lawful
+all_are_lawful-returns-then-not-is_lawful t c = grind (arith, common_steps)
+
+pub values_are_lawful-returns-then-not-is_lawful : goal.values_are_lawful-returns-then-not-is_lawful
+values_are_lawful-returns-then-not-is_lawful t c = grind (arith, common_steps)

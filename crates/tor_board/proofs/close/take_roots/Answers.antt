@@ -1,4 +1,5 @@
 -- One slot after another is taken, and the trees whose root's slots they are.
+use Rattle.std.proofs.lemmas.Grind.{common_steps}
 use Rattle.{std.proofs.Common.{Global, Vec}, tor_board.proofs.Finding.{same_at, some_height, top_node, top_word}}
 use Rattle.tor_board.proofs.{Finding.tree_there, Meets.tree_facts, Names.{Bool, IsLeft, IsShape, List, None, Option}}
 use Rattle.tor_board.proofs.Names.{Shape, Some, Tree, [], ap, arith, dite, false, get_elem?, get_or, get_or-set_other}
@@ -142,3 +143,6 @@ slots-preserved c = let i = c.slots.invariant in let o = c.take-hash.ensures.oth
             count = rw roots_are i.count;
           }
     ]
+
+pub slots-init : goal.slots-init
+slots-init c = grind (arith, common_steps)

@@ -1,3 +1,4 @@
+use Rattle.std.proofs.lemmas.Grind.{common_steps}
 use Rattle.{std.proofs.lemmas.List.{append-nil, append_assoc, at_drop_all}, tor_board.proofs.Names.{List, Run, Tree}}
 use Rattle.tor_board.proofs.{Names.{[], ap, arith, drop, get_or, sym, units_in, ◌++◌, ◌+◌, ◌∙◌, ◌∷◌, ◌≡◌}, Opening.laid}
 use Rattle.tor_board.{proofs.Opening.{low_count, next_run, no_run, no_tree, tree_there}, specs.steps.Row.trees_from}
@@ -32,3 +33,6 @@ returns-clause-trees c = let i = c.runs.invariant in let before = c.runs.trees.i
     let end = at_drop_all (λ (l : List Run). l) c.args.runs.now c.runs.run-index c.runs-test.false in
     sym (append-nil before) ∙ (ap (λ (l : List Tree). before ++ l)
     (sym (ap (trees_from c.runs.number c.runs.offset) end ∙ no_tree c.runs.number c.runs.offset)) ∙ i.trees)
+
+pub returns-clause-units_in_trees : goal.returns-clause-units_in_trees
+returns-clause-units_in_trees c = grind (arith, common_steps)

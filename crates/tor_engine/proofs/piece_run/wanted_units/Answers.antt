@@ -1,5 +1,6 @@
 -- the pieces that are wanted, each a unit by itself
-use Rattle.std.proofs.Common.{◌≡◌, ◌∙◌, ◌∷◌, [], List, ap, drop, length, min, subst, sym}
+use Rattle.std.proofs.Common.{◌≡◌, ◌∙◌, ◌∷◌, [], List, ap, drop, length, min, subst, sym, arith}
+use Rattle.std.proofs.lemmas.Grind.{common_steps}
 use Rattle.std.specs.List.{AllByRecursion}
 use Rattle.std.proofs.lemmas.List.Elements.{recursion_from_All}
 use Rattle.tor_plan.specs.Pieces.{pieces_of_unit}
@@ -40,3 +41,6 @@ returns-clause-units c =
     subst (λ (xs : List PlanUnit). AllByRecursion (IsUnitToHash plan) xs) (sym own_is)
     (between_each (IsUnitToHash plan) c.args.first c.args.after pieces
     (pieces_to_hash plan pieces are c.requires.alone))
+
+pub returns-then-after-len-clause-pieces : goal.returns-then-after-len-clause-pieces
+returns-then-after-len-clause-pieces c = grind (arith, common_steps)

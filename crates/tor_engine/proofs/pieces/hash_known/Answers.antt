@@ -1,5 +1,6 @@
 -- the pieces, and the lengths again
-use Rattle.std.proofs.Common.{List, length, map, is_some, inl, inr, ap, subst, sym, ◌∙◌}
+use Rattle.std.proofs.Common.{List, length, map, is_some, inl, inr, ap, subst, sym, ◌∙◌, arith}
+use Rattle.std.proofs.lemmas.Grind.{common_steps}
 use Rattle.tor_plan.specs.Forest.{AreRuns}
 use Rattle.tor_plan.specs.declared.forests.Run.{Run}
 use Rattle.tor_sums.specs.Contents.{contents_in}
@@ -65,3 +66,6 @@ returns-in-Err-expect_each-clause-hashed g c = λ facts steady told none.
     let never = sym (c.in-Err-expect_each.ensures.steady facts steady)
     ∙ ap (first_again_fault facts) c.deref.ensures.value ∙ same in
     cc
+
+pub returns-in-Err-clause-gave : goal.returns-in-Err-clause-gave
+returns-in-Err-clause-gave g c = grind (arith, common_steps)

@@ -1,4 +1,5 @@
 -- one read after the other
+use Rattle.std.proofs.lemmas.Grind.{common_steps}
 use Rattle.std.proofs.Common.{◌+◌, Some, ap, arith, option_map, refl, sym, ◌∙◌}
 use Rattle.tor_sums.specs.Fault.{byte_fault}
 use Rattle.tor_sums.specs.declared.errors.EngineError.TheVariants.{Read}
@@ -38,3 +39,6 @@ returns-in-Err-Some-clause-failed g c = λ facts steady long.
     sym (ap read_faults (read_fault facts part.file part.start done part.length
     (Read part.file (Some start) c.in-Err-Some.fault) c.reads-test.true (c.reads.invariant.fault facts steady long)
     (ap (option_map (λ fault. Read part.file (Some start) fault)) (failed.1 ∙ c.in-Err-Some.field-0-is))))
+
+pub returns-in-Err-None-clause-refused : goal.returns-in-Err-None-clause-refused
+returns-in-Err-None-clause-refused g c = grind (arith, common_steps)

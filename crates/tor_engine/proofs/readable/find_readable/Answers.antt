@@ -14,6 +14,7 @@ use Rattle.tor_engine.specs.steps.Readable.{IsLeft, seen_by, seen_may_be}
 use Rattle.tor_engine.proofs.Each.{each_length}
 use Rattle.tor_engine.proofs.ReadFaults.{nil_both}
 use Rattle.tor_engine.proofs.SeenLengths.{all_more, left_given, same_contents, seen_are_told, seen_given}
+use Rattle.tor_engine.proofs.Stopped.{stopped, stopped_by}
 use Rattle.tor_engine.proofs.readable.find_readable.Goals as goal
 
 pub returns-in-Err-clause-gave : goal.returns-in-Err-clause-gave
@@ -94,3 +95,81 @@ returns-clause-given g c =
     c.in-Ok.ensures.found.given))
     (subst (λ (n : ℕ). AllByRecursion (given n) lost) (ap length c.deref.ensures.value ∙ long)
     c.in-Ok-expect_readable.ensures.given))
+
+pub returns-in-Err-clause-refused : goal.returns-in-Err-clause-refused
+returns-in-Err-clause-refused g c = λ facts steady.
+    c.in-Err.ensures.refused facts steady
+    ((c.in_ok-lengths.ensures.steady facts steady).0 ∙ ap (seen_lengths facts) (ap length c.lengths.ensures))
+
+pub returns-in-Err-expect_readable-clause-refused : goal.returns-in-Err-expect_readable-clause-refused
+returns-in-Err-expect_readable-clause-refused g c = λ facts steady.
+    let asked = c.in_ok-lengths.ensures.steady facts steady in
+    c.in-Err-expect_readable.ensures.refused facts steady
+    (subst (λ (ts : List (Option ℕ)). ts ≡ seen_lengths facts (length ts)) (sym c.deref.ensures.value)
+    (asked.0 ∙ ap (seen_lengths facts) (sym c.in_ok-lengths.ensures.counted)))
+
+pub returns-clause-told : goal.returns-clause-told
+returns-clause-told g c = c.in_ok-lengths.ensures.told
+
+pub returns-clause-within : goal.returns-clause-within
+returns-clause-within g c = c.in-Ok.ensures.found.within
+
+pub returns-in_err-lengths : goal.returns-in_err-lengths
+returns-in_err-lengths g c =
+    let r = c.from_residual.result in
+    let is = c.from_residual.ensures.1 in record {
+      readable = λ facts steady. stopped _ _ r is;
+      refused = λ facts steady. stopped_by _ _ r is refl;
+      told = stopped _ _ r is;
+      within = stopped _ _ r is;
+      clean = stopped _ _ r is;
+      counted = stopped _ _ r is;
+      given = stopped _ _ r is;
+      no_read_fault = stopped_by _ _ r is tt;
+      gave = stopped_by _ _ r is tt;
+    }
+
+pub returns-in_err-padding_sum : goal.returns-in_err-padding_sum
+returns-in_err-padding_sum g c =
+    let r = c.from_residual-in_err-padding_sum.result in
+    let is = c.from_residual-in_err-padding_sum.ensures.1 in record {
+      readable = λ facts steady. stopped _ _ r is;
+      refused = λ facts steady. stopped_by _ _ r is refl;
+      told = stopped _ _ r is;
+      within = stopped _ _ r is;
+      clean = stopped _ _ r is;
+      counted = stopped _ _ r is;
+      given = stopped _ _ r is;
+      no_read_fault = stopped_by _ _ r is tt;
+      gave = stopped_by _ _ r is tt;
+    }
+
+pub returns-in_err-append : goal.returns-in_err-append
+returns-in_err-append g c =
+    let r = c.from_residual-in_err-append.result in
+    let is = c.from_residual-in_err-append.ensures.1 in record {
+      readable = λ facts steady. stopped _ _ r is;
+      refused = λ facts steady. stopped_by _ _ r is refl;
+      told = stopped _ _ r is;
+      within = stopped _ _ r is;
+      clean = stopped _ _ r is;
+      counted = stopped _ _ r is;
+      given = stopped _ _ r is;
+      no_read_fault = stopped_by _ _ r is tt;
+      gave = stopped_by _ _ r is tt;
+    }
+
+pub returns-in_err-append-2 : goal.returns-in_err-append-2
+returns-in_err-append-2 g c =
+    let r = c.from_residual-in_err-append-2.result in
+    let is = c.from_residual-in_err-append-2.ensures.1 in record {
+      readable = λ facts steady. stopped _ _ r is;
+      refused = λ facts steady. stopped_by _ _ r is refl;
+      told = stopped _ _ r is;
+      within = stopped _ _ r is;
+      clean = stopped _ _ r is;
+      counted = stopped _ _ r is;
+      given = stopped _ _ r is;
+      no_read_fault = stopped_by _ _ r is tt;
+      gave = stopped_by _ _ r is tt;
+    }

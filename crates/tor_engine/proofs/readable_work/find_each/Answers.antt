@@ -8,6 +8,7 @@ use Rattle.tor_sums.specs.steps.Given.{IsGivenRead, lengths_of_sizes}
 use Rattle.tor_engine.specs.declared.readable_unit.FaultyUnit.{FaultyUnit}
 use Rattle.tor_engine.specs.steps.Pieces.{IsPiece, hashes_in}
 use Rattle.tor_engine.proofs.FoundReadable.{finds_as, finds_both, finds_none}
+use Rattle.tor_engine.proofs.Stopped.{stopped, stopped_by, stopped_on}
 use Rattle.tor_engine.proofs.readable_work.find_each.Goals as goal
 
 pub pieces-init : goal.pieces-init
@@ -74,3 +75,75 @@ returns-clause-found g c =
     ∙ ap (λ p. pieces_of_unit p c.args.unit.now) c.piece_length.ensures)
     (sym (ap (λ (one : FaultyUnit _). map hashes_in one.found.pieces) made ∙ ap (map hashes_in) c.in_ok-row.ensures))
     (sym (ap (λ (one : FaultyUnit _). one.faults.items) made)) c.pieces.invariant.found
+
+pub returns-in_err-pieces : goal.returns-in_err-pieces
+returns-in_err-pieces g c =
+    let r = c.from_residual.result in
+    let is = c.from_residual.ensures.1 in record {
+      owing = stopped_on _ _ r is;
+      number = stopped _ _ r is;
+      found = stopped _ _ r is;
+      refused = λ facts steady are. stopped_by _ _ r is refl;
+      no_read_fault = stopped_by _ _ r is tt;
+      gave = stopped_by _ _ r is tt;
+    }
+
+pub returns-in_err-found : goal.returns-in_err-found
+returns-in_err-found g c =
+    let r = c.from_residual-in_err-found.result in
+    let is = c.from_residual-in_err-found.ensures.1 in record {
+      owing = stopped_on _ _ r is;
+      number = stopped _ _ r is;
+      found = stopped _ _ r is;
+      refused = λ facts steady are. stopped_by _ _ r is refl;
+      no_read_fault = stopped_by _ _ r is tt;
+      gave = stopped_by _ _ r is tt;
+    }
+
+pub returns-in_err-push : goal.returns-in_err-push
+returns-in_err-push g c =
+    let r = c.from_residual-in_err-push.result in
+    let is = c.from_residual-in_err-push.ensures.1 in record {
+      owing = stopped_on _ _ r is;
+      number = stopped _ _ r is;
+      found = stopped _ _ r is;
+      refused = λ facts steady are. stopped_by _ _ r is refl;
+      no_read_fault = stopped_by _ _ r is tt;
+      gave = stopped_by _ _ r is tt;
+    }
+
+pub returns-in_err-append : goal.returns-in_err-append
+returns-in_err-append g c =
+    let r = c.from_residual-in_err-append.result in
+    let is = c.from_residual-in_err-append.ensures.1 in record {
+      owing = stopped_on _ _ r is;
+      number = stopped _ _ r is;
+      found = stopped _ _ r is;
+      refused = λ facts steady are. stopped_by _ _ r is refl;
+      no_read_fault = stopped_by _ _ r is tt;
+      gave = stopped_by _ _ r is tt;
+    }
+
+pub returns-in_err-row : goal.returns-in_err-row
+returns-in_err-row g c =
+    let r = c.from_residual-in_err-row.result in
+    let is = c.from_residual-in_err-row.ensures.1 in record {
+      owing = stopped_on _ _ r is;
+      number = stopped _ _ r is;
+      found = stopped _ _ r is;
+      refused = λ facts steady are. stopped_by _ _ r is refl;
+      no_read_fault = stopped_by _ _ r is tt;
+      gave = stopped_by _ _ r is tt;
+    }
+
+pub returns-in_err-unit : goal.returns-in_err-unit
+returns-in_err-unit g c =
+    let r = c.from_residual-in_err-unit.result in
+    let is = c.from_residual-in_err-unit.ensures.1 in record {
+      owing = stopped_on _ _ r is;
+      number = stopped _ _ r is;
+      found = stopped _ _ r is;
+      refused = λ facts steady are. stopped_by _ _ r is refl;
+      no_read_fault = stopped_by _ _ r is tt;
+      gave = stopped_by _ _ r is tt;
+    }

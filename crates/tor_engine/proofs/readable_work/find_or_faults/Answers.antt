@@ -1,5 +1,6 @@
 -- a piece that can be read, and one that cannot
-use Rattle.std.proofs.Common.{◌≡◌, List, [], ◌∷◌, Some, ap, cond, inl, inr, length, subst, sym, true, ◌∙◌}
+use Rattle.std.proofs.Common.{◌≡◌, List, [], ◌∷◌, Some, ap, cond, inl, inr, length, subst, sym, true, ◌∙◌, refl, arith}
+use Rattle.std.proofs.lemmas.Grind.{elements}
 use Rattle.std.specs.List.{flat_map}
 use Rattle.tor_source.specs.Source.{SourceFacts}
 use Rattle.tor_sums.specs.Contents.{contents_in}
@@ -14,6 +15,7 @@ use Rattle.tor_engine.specs.steps.Readable.{FindsReadable}
 use Rattle.tor_engine.proofs.FoundReadable.{finds_alone, finds_lost}
 use Rattle.tor_engine.proofs.ReadFaults.{no_other, no_read, piece_is_read, piece_there}
 use Rattle.tor_engine.proofs.PartsInside.{source_has_unit, unit_in_told}
+use Rattle.tor_engine.proofs.Stopped.{stopped, stopped_by, stopped_on}
 use Rattle.tor_engine.proofs.readable_work.find_or_faults.Goals as goal
 
 pub returns-in-Ok-clause-found : goal.returns-in-Ok-clause-found
@@ -100,3 +102,23 @@ returns-in-Err-faults_of-clause-gave g c =
     ] in
     c.in-Err-faults_of.ensures.gave (lengths_of_sizes told)
     (unit_in_told told c.args.plan.now.lengths c.args.piece.now c.requires.piece.unit.parts within)
+
+pub returns-in-Err-as_read_fault-clause-gave : goal.returns-in-Err-as_read_fault-clause-gave
+returns-in-Err-as_read_fault-clause-gave g c =
+    subst (λ error. IsGivenRead (g.S.FileBytes.answers c.args.source.now)
+    (lengths_of_sizes c.args.known.now.lengths.items) error) (sym c.in-Err-as_read_fault.ensures.0)
+    c.in-Err.ensures.gave
+
+pub returns-in_err-worker : goal.returns-in_err-worker
+returns-in_err-worker g c =
+    let r = c.from_residual.result in
+    let is = c.from_residual.ensures.1 in record {
+      owing = stopped_on _ _ r is;
+      found = stopped _ _ r is;
+      refused = λ facts steady are. stopped_by _ _ r is refl;
+      no_read_fault = stopped_by _ _ r is tt;
+      gave = stopped_by _ _ r is tt;
+    }
+
+pub faults_of-requires : goal.faults_of-requires
+faults_of-requires g c = grind (arith, elements)

@@ -1,11 +1,12 @@
 -- The files in the order of their paths, with their contents, are those that were handed in.
-use Rattle.std.proofs.Common.{◌∙◌, ap, inr, refl}
+use Rattle.std.proofs.Common.{◌∙◌, ap, inr, refl, arith}
+use Rattle.std.proofs.lemmas.Grind.{common_steps}
 use Rattle.tor_meta.specs.steps.Contents.{bytes_of}
 use Rattle.tor_meta.specs.Head.{settings_of}
 use Rattle.tor_meta.proofs.Made.{accepted_all, contents_listed, files_lawful, judged_list, lengths_in, made_of}
 use Rattle.tor_meta.proofs.Made.{refused_lengths}
 use Rattle.tor_meta.proofs.Made.{refused_paths, within}
-use Rattle.tor_meta.proofs.Stopped.{stopped, stopped_by}
+use Rattle.tor_engine.proofs.ProvedLaws.{stopped, stopped_by}
 use Rattle.tor_meta.proofs.contents.make_contents.Goals as goal
 
 pub returns-in-Err-clause-refused : goal.returns-in-Err-clause-refused
@@ -113,3 +114,6 @@ returns-in_err-bytes c =
       accepted = stopped _ _ r is;
       refused = stopped_by _ _ r is (inr refl);
     }
+
+pub with_lengths-requires : goal.with_lengths-requires
+with_lengths-requires c = grind (arith, common_steps)

@@ -1,6 +1,7 @@
 -- What was told of the lengths is of the files that were handed in.
-use Rattle.std.proofs.Common.{◌≡◌, ◌⊎◌, ℕ, Bool, List, None, Option, Some, cond, false, inl, inr, length, map}
+use Rattle.std.proofs.Common.{◌≡◌, ◌⊎◌, ℕ, Bool, List, None, Option, Some, cond, false, inl, inr, length, map, arith}
 use Rattle.std.proofs.Common.{ap, option_map, subst, sym, true, ◌∙◌, refl}
+use Rattle.std.proofs.lemmas.Grind.{common_steps}
 use Rattle.std.specs.List.{range_with_len}
 use Rattle.tor_source.specs.Source.{SourceFacts}
 use Rattle.tor_sums.specs.Contents.{contents_in}
@@ -21,7 +22,7 @@ use Rattle.tor_meta.proofs.FirstFaults.{own_hashing}
 use Rattle.tor_meta.proofs.GivenFiles.{given_of_asked, given_of_lengths}
 use Rattle.tor_meta.proofs.Indexed.{or_first, or_second}
 use Rattle.tor_meta.proofs.SourceFiles.{entries_within, listed_at}
-use Rattle.tor_meta.proofs.Stopped.{stopped, stopped_by, stopped_match}
+use Rattle.tor_engine.proofs.ProvedLaws.{stopped, stopped_by, stopped_match}
 use Rattle.tor_meta.proofs.from_source.ask_lettered.Goals as goal
 
 pub returns-clause-files : goal.returns-clause-files
@@ -152,3 +153,6 @@ returns-in-Err-with_lengths-clause-only g c = λ first.
     let is = c.from-in-Err-with_lengths-2.ensures ∙ ap of_contents_error c.from-in-Err-with_lengths.ensures in
     subst (IsOwn first) (sym is)
     (own_list first c.deref.result.now c.in-Err-with_lengths.fault c.in-Err-with_lengths.ensures.refused)
+
+pub with_attrs-requires : goal.with_attrs-requires
+with_attrs-requires g c = grind (arith, common_steps)

@@ -1,5 +1,6 @@
 -- the files in the order of their paths are those that were handed in
-use Rattle.std.proofs.Common.{◌≡◌, ◌<◌, ℕ, List, Some, inl, ◌∙◌, sym, ap, refl, subst, get_or, length}
+use Rattle.std.proofs.Common.{◌≡◌, ◌<◌, ℕ, List, Some, inl, ◌∙◌, sym, ap, refl, subst, get_or, length, arith}
+use Rattle.std.proofs.lemmas.Grind.{common_steps}
 use Rattle.std.specs.List.{All}
 use Rattle.std.proofs.lemmas.List.{length-map}
 use Rattle.std.proofs.lemmas.Option.{none-some}
@@ -20,7 +21,7 @@ use Rattle.tor_meta.proofs.SourceFaults.{fault_none, fault_told, lengths_told}
 use Rattle.tor_meta.proofs.Made.{files_lawful, judged_list}
 use Rattle.tor_meta.proofs.Refused.{given_or_not, paths_of as paths_accepted, span_of}
 use Rattle.tor_meta.proofs.SourceFiles.{entries_within, told_of_listed}
-use Rattle.tor_meta.proofs.Stopped.{stopped, stopped_by, stopped_match}
+use Rattle.tor_engine.proofs.ProvedLaws.{stopped, stopped_by, stopped_match}
 use Rattle.tor_meta.proofs.from_source.make_with.Goals as goal
 
 pub returns-in-Err-clause-gave : goal.returns-in-Err-clause-gave
@@ -189,3 +190,6 @@ returns-in_err-head g c =
       only = stopped_by _ _ r is tt;
       gave = stopped_by _ _ r is tt;
     }
+
+pub torrent_of_listed-requires-clause-how : goal.torrent_of_listed-requires-clause-how
+torrent_of_listed-requires-clause-how g c κs within = grind (arith, common_steps)

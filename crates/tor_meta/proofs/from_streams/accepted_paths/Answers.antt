@@ -4,7 +4,7 @@ use Rattle.tor_meta.proofs.RisingPaths.{stay_in_order}
 use Rattle.tor_meta.specs.MakeStreams.{are_rising}
 use Rattle.tor_tree.specs.FileList.{paths_of}
 use Rattle.tor_tree.specs.PathList.{AreIndexedPaths}
-use Rattle.tor_meta.proofs.Stopped.{stopped, stopped_by}
+use Rattle.tor_engine.proofs.ProvedLaws.{stopped, stopped_by}
 use Rattle.tor_meta.proofs.from_streams.accepted_paths.Goals as goal
 
 pub returns-in-Ok-clause-same : goal.returns-in-Ok-clause-same

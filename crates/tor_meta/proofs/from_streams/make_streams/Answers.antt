@@ -1,5 +1,6 @@
 -- the paths are those that were handed in
-use Rattle.std.proofs.Common.{◌≡◌, ℕ, List, None, ap, map, subst, ◌∙◌}
+use Rattle.std.proofs.Common.{◌≡◌, ℕ, List, None, ap, map, subst, ◌∙◌, arith}
+use Rattle.std.proofs.lemmas.Grind.{common_steps}
 use Rattle.std.specs.Prelude.{IfErr, IfOk, OnOk}
 use Rattle.std.specs.declared.io.Error.{Error}
 use Rattle.tor_meta.specs.Contents.{IsMadeOfSome, files_with}
@@ -55,3 +56,6 @@ returns-clause-only g c =
     let same = ap paths_of (c.deref.ensures.value ∙ c.in_ok-files.ensures) ∙ paths_alone c.args.paths.now in
     subst (λ paths. IfErr c.make_streams_with.result (IsOwn (stream_refusal c.args.order.now paths))) same
     c.make_streams_with.ensures.only
+
+pub make_streams_with-requires-after_bounds : goal.make_streams_with-requires-after_bounds
+make_streams_with-requires-after_bounds g c κs within = grind (arith, common_steps)

@@ -12,7 +12,7 @@ use Rattle.tor_meta.specs.steps.Sums.{AreSumsOfSettings}
 use Rattle.tor_meta.proofs.FirstFaults.{one_refusal, own_hashing, own_large, own_refusal}
 use Rattle.tor_meta.proofs.Refused.{accepted_numbers, given_by_readers_or_not, stream_paths, stream_rising}
 use Rattle.tor_meta.proofs.RisingPaths.{sorted_from_rising}
-use Rattle.tor_meta.proofs.Stopped.{stopped, stopped_by}
+use Rattle.tor_engine.proofs.ProvedLaws.{stopped, stopped_by}
 use Rattle.tor_meta.proofs.StreamSums.{given_large, known_long, lengths_read, made_in_order}
 use Rattle.tor_spec.specs.Metainfo.{metainfo}
 use Rattle.tor_spec.specs.Settings.{Settings}

@@ -1,7 +1,7 @@
 -- one more hash, and all of them
 use Rattle.std.proofs.Common.{◌∙◌}
 use Rattle.std.proofs.lemmas.List.{take_all}
-use Rattle.tor_meta.proofs.ListSteps.{joined_more}
+use Rattle.tor_parts.proofs.ProvedLaws.{joined_more}
 use Rattle.tor_meta.proofs.items.joined_hashes.Goals as goal
 
 pub loop-hash-preserved : goal.loop-hash-preserved

@@ -12,7 +12,7 @@ use Rattle.tor_parts.specs.JoinedRows.{HasAllPieces}
 use Rattle.tor_parts.proofs.ProvedLaws.{rows_have_all_pieces}
 use Rattle.tor_plan.specs.PlanFacts.{PlanFacts}
 use Rattle.tor_tree.specs.FileList.{LetteredFiles}
-use Rattle.tor_meta.proofs.Stopped.{stopped, stopped_by}
+use Rattle.tor_engine.proofs.ProvedLaws.{stopped, stopped_by}
 use Rattle.tor_meta.proofs.joined.join_listed.Goals as goal
 
 pub torrent_of_rows-requires-clause-counted : goal.torrent_of_rows-requires-clause-counted

@@ -1,3 +1,4 @@
+use Rattle.std.proofs.lemmas.Grind.{common_steps}
 use Rattle.std.proofs.Common.{ℕ, List, ◌≡◌, ◌-◌, ◌<◌, Option, Some, None, IsSome, length, get_or, arith, ap}
 use Rattle.std.proofs.Common.{◌∙◌, refl}
 use Rattle.std.proofs.lemmas.Slice.Zip.{AllZip-long}
@@ -60,3 +61,9 @@ files-preserved c = record {
       c.files.by_root.entries c.if-files-left.false
       facts is_listed is_roots is_layers (c.files.invariant.passed facts is_listed is_roots is_layers);
 }
+
+pub files-init : goal.files-init
+files-init c = grind (arith, common_steps)
+
+pub bounds-roots-left : goal.bounds-roots-left
+bounds-roots-left c = grind (arith, common_steps)

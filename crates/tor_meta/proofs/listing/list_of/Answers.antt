@@ -1,5 +1,6 @@
 -- paths that rise stay in their order, each with its length
-use Rattle.std.proofs.Common.{◌≡◌, ◌∙◌, ℕ, List, [], ◌∷◌, ap, refl, subst, sym}
+use Rattle.std.proofs.Common.{◌≡◌, ◌∙◌, ℕ, List, [], ◌∷◌, ap, refl, subst, sym, arith}
+use Rattle.std.proofs.lemmas.Grind.{common_steps}
 use Rattle.std.specs.List.{zip}
 use Rattle.tor_meta.specs.MakeStreams.{are_rising}
 use Rattle.tor_meta.proofs.RisingPaths.{stay_in_order}
@@ -21,3 +22,6 @@ returns-then-rising-clause-same c =
     c.in-Ok.ensures.lawful.in_order in
     c.in-Ok-with_lengths.ensures.list paths entries
     ∙ ap (zip paths) (c.deref-2.ensures.value ∙ c.in_ok-lengths.ensures) ∙ both c.args.files.now
+
+pub with_lengths-requires : goal.with_lengths-requires
+with_lengths-requires c = grind (arith, common_steps)

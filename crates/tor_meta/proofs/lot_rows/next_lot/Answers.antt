@@ -17,7 +17,7 @@ use Rattle.tor_parts.specs.declared.lot_text.Lot.{Lot}
 use Rattle.tor_parts.proofs.ProvedLaws.{lots_begin_in_order, lots_begin_within}
 use Rattle.tor_plan.specs.PlanFacts.{PlanFacts}
 use Rattle.tor_plan.specs.declared.units.PlanUnit.{PlanUnit}
-use Rattle.tor_meta.proofs.Stopped.{stopped, stopped_by}
+use Rattle.tor_engine.proofs.ProvedLaws.{stopped, stopped_by}
 use Rattle.tor_meta.proofs.lot_rows.next_lot.Goals as goal
 
 of_lot : (plan : PlanFacts) (count : ℕ) (lot : Lot) → lot.lots ≡ count

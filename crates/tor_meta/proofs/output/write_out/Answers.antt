@@ -1,4 +1,5 @@
 -- The front that went out, and what the last write took of the rest, are a longer front.
+use Rattle.std.proofs.lemmas.Grind.{common_steps}
 use Rattle.std.proofs.Common.{arith, drop, take}
 use Rattle.std.proofs.Math.Seq.{take-add}
 use Rattle.std.proofs.KnownBytes.{Appends-trans}
@@ -17,3 +18,6 @@ loop-written-preserved g c =
           (take front bytes) (take c.in-Ok.count (drop front bytes))
           c.loop-written.invariant.sent (rw c.split_at.ensures.back at c.in-Ok.ensures.bytes));
     }
+
+pub returns-clause-ok : goal.returns-clause-ok
+returns-clause-ok g c = grind (arith, common_steps)

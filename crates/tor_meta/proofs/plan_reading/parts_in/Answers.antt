@@ -1,5 +1,7 @@
 -- where there is no memory for the head, or for the files
-use Rattle.tor_meta.proofs.Stopped.{stopped}
+use Rattle.std.proofs.Common.{arith}
+use Rattle.std.proofs.lemmas.Grind.{common_steps}
+use Rattle.tor_engine.proofs.ProvedLaws.{stopped}
 use Rattle.tor_meta.proofs.plan_reading.parts_in.Goals as goal
 
 pub returns-in_err-head : goal.returns-in_err-head
@@ -17,3 +19,6 @@ returns-in_err-files c =
       is = stopped _ _ r is;
       all = λ text lawful same. stopped _ _ r is;
     }
+
+pub returns-clause-is : goal.returns-clause-is
+returns-clause-is c = grind (arith, common_steps)

@@ -1,5 +1,7 @@
 -- each name is the next of the path
 use Rattle.std.proofs.Common.{◌≡◌, ◌∙◌, ◌++◌, ◌∷◌, [], ℕ, false, inl, inr, List, Option, Some, None, ap, subst, sym}
+use Rattle.std.proofs.Common.{arith}
+use Rattle.std.proofs.lemmas.Grind.{common_steps}
 use Rattle.std.specs.Borrow.{Bor}
 use Rattle.std.specs.Prelude.{IsSomeAnd, MatchOption}
 use Rattle.tor_meta.specs.steps.PlanParts.{IsLeft}
@@ -89,3 +91,6 @@ returns-clause-all c = λ path is same.
     (c.in_ok-push-in-Some-3.ensures.items
     ∙ ap (λ (n : List ℕ). c.names.names.items ++ n ∷ []) (name ∙ last.spelled) ∙ last.all)
     is
+
+pub names-init : goal.names-init
+names-init c = grind (arith, common_steps)

@@ -5,7 +5,7 @@ use Rattle.tor_bencode.specs.Data.{Data, string}
 use Rattle.tor_bencode.specs.View.{view}
 use Rattle.tor_bencode.specs.declared.item.Item.{Bytes, Item, the_lemmas}
 use Rattle.tor_meta.specs.PlanText.{path_text}
-use Rattle.tor_meta.proofs.Stopped.{stopped}
+use Rattle.tor_engine.proofs.ProvedLaws.{stopped}
 use Rattle.tor_meta.proofs.plan_text.push_file.Goals as goal
 
 pub returns-in_err-text : goal.returns-in_err-text

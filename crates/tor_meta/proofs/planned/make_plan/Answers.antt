@@ -20,7 +20,7 @@ use Rattle.tor_meta.proofs.FirstFaults.{one_refusal, others_or, own_refusal, ref
 use Rattle.tor_meta.proofs.Indexed.{or_second}
 use Rattle.tor_meta.proofs.Made.{judged_list}
 use Rattle.tor_meta.proofs.Refused.{given_or_not, paths_of as paths_accepted, span_of}
-use Rattle.tor_meta.proofs.Stopped.{stopped, stopped_by, stopped_match}
+use Rattle.tor_engine.proofs.ProvedLaws.{stopped, stopped_by, stopped_match}
 use Rattle.tor_meta.proofs.planned.make_plan.Goals as goal
 
 pub returns-in-Err-clause-gave : goal.returns-in-Err-clause-gave

@@ -1,5 +1,6 @@
 -- one after the other
-use Rattle.std.proofs.Common.{◌∙◌, ◌++◌, ◌<◌, ◌≤◌, length, take, ap, append-nil, arith, sym}
+use Rattle.std.proofs.lemmas.Grind.{common_steps}
+use Rattle.std.proofs.Common.{◌∙◌, ◌++◌, ◌≤◌, length, take, ap, append-nil, arith, sym}
 use Rattle.std.proofs.lemmas.List.{drop_all, take_all}
 use Rattle.tor_sums.specs.steps.Owing.{paid_each}
 use Rattle.tor_sums.proofs.PaidSums.{paid_more, paid_none}
@@ -22,3 +23,9 @@ returns-clause-paid g c =
     ∙ ap (λ xs. take c.items.item-index items ++ paid_each g.T.Owed.owed g.T.Owed.paid xs c.items.rest.now)
     (sym (drop_all c.items.item-index items end))
     ∙ c.items.invariant.paid
+
+pub take_own-rest-requires : goal.take_own-rest-requires
+take_own-rest-requires g c = grind (arith, common_steps)
+
+pub returns-clause-rest : goal.returns-clause-rest
+returns-clause-rest g c = grind (arith, common_steps)

@@ -1,6 +1,7 @@
 -- each file: its entry, and its padding where it has any
-use Rattle.std.proofs.Common.{◌≡◌, ◌+◌, ◌++◌, ◌∷◌, [], true, false, ◌&&◌, ◌||◌, count_by, drop, ltb, ap, ap₂}
+use Rattle.std.proofs.Common.{◌≡◌, ◌+◌, ◌++◌, ◌∷◌, [], true, false, ◌&&◌, ◌||◌, count_by, drop, ltb, ap, ap₂, arith}
 use Rattle.std.proofs.Common.{◌∙◌, append-nil, sym}
+use Rattle.std.proofs.lemmas.Grind.{common_steps}
 use Rattle.tor_v1.specs.Entries.{aligned_entries, pad_entry, padding_length}
 use Rattle.tor_v1.proofs.Aligned.{is_some, count-next, pushed, counted_some, counted_none, aligned_entries-end}
 use Rattle.tor_v1.proofs.layout.aligned.Goals as goal
@@ -46,3 +47,6 @@ pub returns : goal.returns
 returns c =
     aligned_entries-end c.args.tail c.args.piece_length c.args.files.now c.files.path-index c.files.entries.items _
     c.files-test.false c.files.invariant.all
+
+pub overflow_sub-later : goal.overflow_sub-later
+overflow_sub-later c = grind (arith, common_steps)

@@ -1,3 +1,5 @@
+use Rattle.std.proofs.Common.{arith}
+use Rattle.std.proofs.lemmas.Grind.{common_steps}
 use Rattle.{std.proofs.Common.subst₂, tor_board.proofs.Closing.end_of, tor_board.proofs.Finding.at_number}
 use Rattle.tor_board.proofs.{Moves.{all_given, least_failed, none_failed}, Names.{IsLeastOf, IsTreeEnd, Keeps, None}}
 use Rattle.tor_board.proofs.{Names.{Run, Shape, ap, get_or, run_of, subst, sym, ℕ, ◌∙◌, ◌≡◌}, Sums.{mapped, read}}
@@ -33,3 +35,6 @@ returns-clause-all c = let f = c.close_with-ended.ensures.values.2 in let kept =
       | else-least w ↦ all_given kept.claims _ _ at c.requires.whole kept.small _
           (λ ne. rw w.least_failed-is (sym is)) (λ e. absurd (w.if-least.false (sym is ∙ e)))
     ]
+
+pub returns-clause-count : goal.returns-clause-count
+returns-clause-count c = grind (arith, common_steps)

@@ -1,4 +1,5 @@
 -- each part and each run is within what is fed
+use Rattle.std.proofs.lemmas.Grind.{common_steps}
 use Rattle.tor_merkle.proofs.Names.{ℕ, ◌+◌, ◌*◌, ◌^◌, ◌≤◌, length, arith, sym, ap, le_trans, length-append, pow_pos}
 use Rattle.tor_merkle.proofs.Names.{eqb-false, div_ceil}
 use Rattle.tor_merkle.proofs.Ceil.{ceil_mono}
@@ -40,3 +41,12 @@ add_run-requires c =
           (room_of_part _ (length now.bytes + length c.args.bytes.now) now.height now.capacity _
           (omega (arith, all, cut.front_len, cut.back_len)) c.requires.room c.parts.invariant.capacity);
     }
+
+pub parts-preserved-then-rest-ge-LEAST_RUN : goal.parts-preserved-then-rest-ge-LEAST_RUN
+parts-preserved-then-rest-ge-LEAST_RUN c = grind (arith, common_steps)
+
+pub parts-preserved : goal.parts-preserved
+parts-preserved c = grind (arith, common_steps)
+
+pub returns-clause-bytes : goal.returns-clause-bytes
+returns-clause-bytes c = grind (arith, common_steps)

@@ -1,6 +1,7 @@
 -- The first file, the others, and the bracket after them.
-use Rattle.tor_report.proofs.Faults.{fault_after, fault_in, put_third, stop_third}
-use Rattle.tor_report.proofs.MembersTexts.{files_text}
+use Rattle.std.proofs.lemmas.List.{nil_from_length}
+use Rattle.tor_report.proofs.Faults.{fault_after, fault_in, put_same, put_third, stop_same, stop_third}
+use Rattle.tor_report.proofs.MembersTexts.{files_text, without_files, without_pieces}
 use Rattle.tor_report.proofs.buffer.Buffer.put_files.Goals as goal
 
 pub returns-in_err-put_file-clause-stopped : goal.returns-in_err-put_file-clause-stopped
@@ -34,3 +35,27 @@ returns-clause-stopped g c =
     c.in-Some-split_first.of_others.now c.in-Some-split_first.of_first.now c.in-Some.ensures.cases.0
     c.in-Some-split_first.ensures.cases.0)
     (rw c.file.ensures at c.in_ok-put_file.ensures.put) c.in_ok-put_other_files.ensures.put c.put-2.ensures.stopped
+
+pub returns-in_default-clause-put : goal.returns-in_default-clause-put
+returns-in_default-clause-put g c =
+    put_same g.S.Sink.lawful _ _ _ _ _ _
+    (without_files c.args.files.now c.args.pieces.now (nil_from_length _ c.in_default.ensures.cases)) _
+    c.put.ensures.put
+
+pub returns-in_default-clause-stopped : goal.returns-in_default-clause-stopped
+returns-in_default-clause-stopped g c =
+    stop_same g.S.Sink.lawful _ _ _ _ _ _
+    (without_files c.args.files.now c.args.pieces.now (nil_from_length _ c.in_default.ensures.cases))
+    c.put.ensures.stopped
+
+pub returns-in_default-split_first-clause-put : goal.returns-in_default-split_first-clause-put
+returns-in_default-split_first-clause-put g c =
+    put_same g.S.Sink.lawful _ _ _ _ _ _
+    (without_pieces c.args.files.now c.args.pieces.now (nil_from_length _ c.in_default-split_first.ensures.cases)) _
+    c.put-in_default-split_first.ensures.put
+
+pub returns-in_default-split_first-clause-stopped : goal.returns-in_default-split_first-clause-stopped
+returns-in_default-split_first-clause-stopped g c =
+    stop_same g.S.Sink.lawful _ _ _ _ _ _
+    (without_pieces c.args.files.now c.args.pieces.now (nil_from_length _ c.in_default-split_first.ensures.cases))
+    c.put-in_default-split_first.ensures.stopped

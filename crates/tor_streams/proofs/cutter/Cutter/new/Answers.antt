@@ -1,5 +1,5 @@
 -- nothing was read
-use Rattle.std.proofs.Common.{◌++◌, ◌≡◌, ◌∙◌, [], ap, append-nil, ap₂, subst, sym, refl}
+use Rattle.std.proofs.Common.{◌++◌, ◌≡◌, ◌∙◌, [], append-nil, ap₂, subst, sym, refl}
 use Rattle.tor_lane.specs.Lane.{IsOpen, put_by}
 use Rattle.tor_streams.specs.steps.Cuts.{chunk_waiting, given_to}
 use Rattle.tor_streams.proofs.Cutting.{none_read, some_size}

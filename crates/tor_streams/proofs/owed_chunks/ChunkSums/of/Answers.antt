@@ -1,5 +1,5 @@
 -- nothing is owed to a chunk that does not wait
-use Rattle.std.proofs.Common.{List, [], ◌++◌, append-nil, refl, subst, sym, ℕ}
+use Rattle.std.proofs.Common.{List, [], append-nil, refl, subst, sym, ℕ}
 use Rattle.tor_streams.specs.steps.OwedChunks.{Owes}
 use Rattle.tor_streams.proofs.owed_chunks.ChunkSums.of.Goals as goal
 

@@ -1,6 +1,5 @@
 -- those that were ended, and those of the pieces that are ended now
-use Rattle.std.proofs.Common.{◌++◌, [], ap, ap₂, ◌∙◌}
-use Rattle.tor_sums.specs.steps.Owing.{sums_of}
+use Rattle.std.proofs.Common.{◌++◌, [], ap₂, ◌∙◌}
 use Rattle.tor_sums.proofs.OwedSums.{owes_none}
 use Rattle.tor_sums.proofs.owing.OwingSums.settle.Goals as goal
 

@@ -38,3 +38,9 @@ returns-clause-refused c =
 
 pub returns-clause-same_files : goal.returns-clause-same_files
 returns-clause-same_files c = grind (arith, common_steps)
+
+pub returns-then-is_empty-clause-refused : goal.returns-then-is_empty-clause-refused
+returns-then-is_empty-clause-refused c = grind (arith, common_steps)
+
+pub paths_fault-requires-clause-sorted : goal.paths_fault-requires-clause-sorted
+paths_fault-requires-clause-sorted c = grind (arith, common_steps)

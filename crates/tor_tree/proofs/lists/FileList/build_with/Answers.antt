@@ -66,3 +66,9 @@ paths_fault-requires-clause-some c = grind (arith, common_steps)
 
 pub of_sorted-requires-clause-one_each : goal.of_sorted-requires-clause-one_each
 of_sorted-requires-clause-one_each c = grind (arith, common_steps)
+
+pub returns-then-is_empty-clause-refused : goal.returns-then-is_empty-clause-refused
+returns-then-is_empty-clause-refused c = grind (arith, common_steps)
+
+pub paths_fault-requires-clause-sorted : goal.paths_fault-requires-clause-sorted
+paths_fault-requires-clause-sorted c = grind (arith, common_steps)

@@ -1,4 +1,5 @@
 -- each part and each run is within what is left
+use Rattle.std.proofs.lemmas.Grind.{common_steps}
 use Rattle.std.proofs.Common.{◌≡◌, ℕ, ◌+◌, ◌≤◌, List, ◌++◌, length, arith, sym, ap, ap₂, ◌∙◌, subst, add-zero}
 use Rattle.std.proofs.Common.{append_assoc, take-append-drop}
 use Rattle.tor_v1.specs.Feeding.{HasFed, Feeds}
@@ -77,3 +78,6 @@ parts-preserved-then-takes_run c =
           (length run) (length later) (omega (arith, cut.front_len, cut.back_len))
           c.parts.invariant.room c.add_run.ensures.room;
     }
+
+pub returns-clause-fed : goal.returns-clause-fed
+returns-clause-fed c = grind (arith, common_steps)

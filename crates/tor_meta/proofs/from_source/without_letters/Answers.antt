@@ -1,0 +1,10 @@
+-- A search fails at these goals before `grind` finds the proof.
+use Rattle.std.proofs.Common.{arith}
+use Rattle.std.proofs.lemmas.Grind.{common_steps}
+use Rattle.tor_meta.proofs.from_source.without_letters.Goals as goal
+
+pub loop-path-preserved : goal.loop-path-preserved
+loop-path-preserved c = grind (arith, common_steps)
+
+pub returns : goal.returns
+returns c = grind (arith, common_steps)
