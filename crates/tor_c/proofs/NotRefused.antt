@@ -4,7 +4,7 @@ use Rattle.std.proofs.Common.{Result, Ok, Err}
 use Rattle.tor_bencode.specs.Data.{Data}
 use Rattle.tor_check.specs.Valid.{IsRefusedFor}
 use Rattle.tor_check.specs.declared.refusal.Refusal.{Refusal}
-use Rattle.tor_meta.specs.declared.hashes.Hashes.{Hashes}
+use Rattle.tor_spec.specs.declared.hashes.Hashes.{Hashes}
 use Rattle.tor_spec.specs.valid.Conditions.{IsValid}
 use Rattle.tor_c.proofs.Judged.{memory_alone}
 use Rattle.tor_c.specs.Numbers.{refusal_number}

@@ -1,8 +1,8 @@
 -- What the exports answer of proofs that a piece is of a file.
 use Rattle.std.specs.Prelude.{◌≡◌, ◌⊎◌, ℕ, ◌==◌, Bool, not, ◌&&◌, nat_lt, nat_le, List, length}
 use Rattle.std.specs.Prelude.{if◌then◌else◌, Option, None, Some, IsNone, IsTrue, unwrap_or}
-use Rattle.tor_engine.specs.PieceHashes.{merkle_hash}
-use Rattle.tor_piece.specs.Piece.{piece_size as size_of_piece}
+use Rattle.tor_merkle.specs.PieceHash.{merkle_hash}
+use Rattle.tor_view.specs.PieceBytes.{piece_size as size_of_piece}
 use Rattle.tor_merkle.specs.Layer.{is_piece_length}
 use Rattle.tor_merkle.specs.Proof.{is_proof, proof_count, proof_level}
 use Rattle.tor_merkle.specs.Subtree.{height}

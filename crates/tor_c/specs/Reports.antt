@@ -9,8 +9,8 @@ use Rattle.tor_check.specs.declared.refusal.Refusal.{Refusal}
 use Rattle.tor_check.specs.declared.refusal.Refusal.TheVariants as refusals
 use Rattle.tor_report.specs.Told.{IsTorrentWith}
 use Rattle.tor_report.specs.Records.{check_members}
-use Rattle.tor_meta.specs.Hashes.{magnet_link}
-use Rattle.tor_meta.specs.declared.hashes.Hashes.{Hashes}
+use Rattle.tor_spec.specs.Hashes.{magnet_link}
+use Rattle.tor_spec.specs.declared.hashes.Hashes.{Hashes}
 use Rattle.tor_spec.specs.valid.View.{view_of}
 use Rattle.tor_c.specs.Numbers.{fault_number, refusal_number}
 use Rattle.tor_c.specs.declared.TheConstants.{ACCEPTED, MEMORY, NO_ROOM}

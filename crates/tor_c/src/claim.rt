@@ -7,7 +7,7 @@ ghost use Rattle.tor_merkle.specs.declared.TheConstants.{MAX_LENGTH};
 use crate::{BAD_LENGTH, BAD_PIECE_LENGTH};
 use tor_merkle::laws::piece_length_bounds;
 use tor_merkle::{Hash, MAX_LENGTH, is_piece_length};
-use tor_piece::piece_size;
+use tor_view::piece_size;
 
 /// Which piece of which file a proof is of.
 #[derive(Clone, Copy)]

@@ -10,8 +10,8 @@ use crate::numbers::refusal_number;
 use crate::outcome::PloverOutcome;
 use std::alloc::Global;
 use tor_merkle::Hash;
-use tor_meta::Hashes;
 use tor_report::torrent_with_hashes;
+use tor_spec::Hashes;
 
 /// The info hashes of a torrent (BEP 3, "info_hash"; BEP 52, "infohash").
 #[repr(C)]

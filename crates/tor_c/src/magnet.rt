@@ -7,8 +7,8 @@ use crate::outcome::PloverOutcome;
 use crate::report::report;
 use std::alloc::Global;
 use tor_check::Refusal;
-use tor_meta::magnet;
 use tor_report::torrent_with_hashes;
+use tor_spec::magnet;
 
 /// Judges the bytes of a torrent, and writes its magnet link into `room`, without a line feed (BEP 9, "magnet URI
 /// format"). What is told otherwise is told as by [`crate::check::plover_check`].

@@ -2,8 +2,8 @@
 ghost use Rattle.std.specs.Prelude.{◌^◌, ◌≤◌, ◌<◌, ◌+◌, length};
 ghost use Rattle.tor_report.proofs.ProvedLaws.{count_is_sink, room_is_sink};
 
-use tor_meta::WriteFault;
 use tor_report::Sink;
+use tor_spec::WriteFault;
 
 /// Counts bytes.
 #[derive(Drop)]

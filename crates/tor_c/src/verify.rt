@@ -10,7 +10,7 @@ use crate::{ACCEPTED, MEMORY, NOT_PROVED};
 use std::alloc::Global;
 use tor_merkle::laws::{heights_are_least, proofs_are_low};
 use tor_merkle::{Hash, Proof, height_of, proof_count, proof_level, verify};
-use tor_piece::hash_of_piece;
+use tor_view::hash_of_piece;
 
 /// Whether `hash` is that of the piece at `index` of the file of `size` bytes whose root is `root`, as its siblings
 /// say, lowest first (BEP 52, "piece layers"). Lengths are in bytes. Of a file of at most one piece the hash is the

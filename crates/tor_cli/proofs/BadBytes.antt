@@ -2,8 +2,8 @@
 use Rattle.std.proofs.Common.{◌≡◌, ◌≤◌, ◌∙◌, ap, Bool, List, ℕ, [], ◌∷◌, ◌++◌, length, map, sym, take}
 use Rattle.std.proofs.lemmas.List.{length-map, length-take-le}
 use Rattle.std.specs.Prelude.{IfSome, slice_get}
-use Rattle.tor_recheck.specs.FileBytes.{AreBadRanges, PiecedFile}
-use Rattle.tor_recheck.specs.declared.files.FileFound.{FileFound}
+use Rattle.tor_view.specs.FileBytes.{AreBadRanges, PiecedFile}
+use Rattle.tor_view.specs.declared.files.FileFound.{FileFound}
 use Rattle.tor_cli.specs.declared.recheck.bytes_found.BytesFound.{BytesFound}
 use Rattle.tor_cli.specs.recheck.BadBytes.{HaveBadRanges}
 

@@ -7,9 +7,9 @@ use Rattle.serde_json.specs.Data.{array, object}
 use Rattle.serde_json.specs.View.{items_of}
 use Rattle.serde_json.specs.Written.{compact_text}
 use Rattle.std.specs.Prelude.{map}
-use Rattle.tor_meta.specs.declared.hashes.Hashes.{Hashes}
-use Rattle.tor_recheck.specs.Bitfield.{bitfield}
-use Rattle.tor_recheck.specs.declared.files.FileFound.{FileFound}
+use Rattle.tor_spec.specs.declared.hashes.Hashes.{Hashes}
+use Rattle.tor_view.specs.Bitfield.{bitfield}
+use Rattle.tor_view.specs.declared.files.FileFound.{FileFound}
 use Rattle.tor_report.specs.Escape.{escaped}
 use Rattle.tor_report.specs.Records.{hash_data, path_data}
 use Rattle.tor_report.specs.Shown.{path_text}

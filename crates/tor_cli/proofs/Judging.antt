@@ -8,8 +8,8 @@ use Rattle.tor_bencode.specs.Find.{value_of}
 use Rattle.tor_check.specs.Valid.{IsRefusedFor}
 use Rattle.tor_check.specs.declared.refusal.Refusal.{Refusal}
 use Rattle.tor_check.specs.declared.refusal.Refusal.TheVariants as refusals
-use Rattle.tor_meta.specs.Hashes.{AreInfoHashes, HasHash, HasInfo}
-use Rattle.tor_meta.specs.declared.hashes.Hashes.{Hashes}
+use Rattle.tor_spec.specs.Hashes.{AreInfoHashes, HasHash, HasInfo}
+use Rattle.tor_spec.specs.declared.hashes.Hashes.{Hashes}
 use Rattle.tor_spec.specs.valid.Conditions.{IsTorrentOf, InfoShape, RootShape, conditions, holds, refusal_of}
 use Rattle.tor_spec.specs.valid.Heads.{lacks_dictionary}
 use Rattle.tor_spec.specs.valid.Parts.{info_of}

@@ -3,8 +3,8 @@ use Rattle.std.proofs.Common.{◌≡◌, ◌≤◌, refl, sym, subst, ℕ, Bool,
 use Rattle.std.specs.Io.KnownBytes.{Appends}
 use Rattle.std.specs.Prelude.{IfErr, OnOk, Option, Result, Ok, Err}
 use Rattle.std.specs.Result.{IsErr, IsErrAnd}
-use Rattle.tor_meta.specs.declared.hashes.Hashes.{Hashes}
-use Rattle.tor_recheck.specs.declared.files.FileFound.{FileFound}
+use Rattle.tor_spec.specs.declared.hashes.Hashes.{Hashes}
+use Rattle.tor_view.specs.declared.files.FileFound.{FileFound}
 use Rattle.tor_report.specs.Reports.{IsCutShort}
 use Rattle.tor_report.specs.declared.fault.ReportFault.{ReportFault}
 use Rattle.tor_report.specs.declared.fault.ReportFault.TheVariants as reports

@@ -2,7 +2,7 @@
 use Rattle.std.proofs.Common.{◌<◌, ℕ, List, codes, length, subst, sym, arith, true≢false}
 use Rattle.std.specs.Prelude.{IsSome}
 use Rattle.tor_meta.specs.Contents.{IsMadeOfSome}
-use Rattle.tor_meta.specs.Hashes.{HasInfo}
+use Rattle.tor_spec.specs.Hashes.{HasInfo}
 use Rattle.tor_meta.specs.PlanText.{PlanText, plan_bytes}
 use Rattle.tor_bencode.specs.Data.{Data, dictionary, integer, list, string}
 use Rattle.tor_bencode.specs.Find.{value_of}

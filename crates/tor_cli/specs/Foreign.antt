@@ -5,8 +5,8 @@ use Rattle.std.specs.Io.KnownBytes.{Appends}
 use Rattle.tor_bencode.specs.Data.{Data}
 use Rattle.tor_check.specs.Valid.{IsRefusedFor}
 use Rattle.tor_check.specs.declared.refusal.Refusal.TheVariants.{Memory}
-use Rattle.tor_meta.specs.declared.hashes.Hashes.{Hashes}
-use Rattle.tor_meta.specs.FromInput.{IsFront}
+use Rattle.tor_spec.specs.declared.hashes.Hashes.{Hashes}
+use Rattle.tor_spec.specs.Output.{IsFront}
 use Rattle.tor_report.specs.Told.{IsTorrentWith}
 use Rattle.tor_cli.specs.Streams.{IsUntouched, Streams}
 use Rattle.tor_source.specs.declared.input.TheConstants.{MAX_INPUT_LENGTH}

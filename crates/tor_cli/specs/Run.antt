@@ -1,7 +1,7 @@
 -- What a run of the program does: what it reads and writes for what the words ask for, and with which status it ends.
 use Rattle.std.specs.Prelude.{◌≡◌, ◌⊎◌, ◌≤◌, ◌≢◌, ℕ, List, string_bytes}
 use Rattle.std.specs.Io.KnownBytes.{Appends}
-use Rattle.tor_meta.specs.FromInput.{IsFront}
+use Rattle.tor_spec.specs.Output.{IsFront}
 use Rattle.tor_cli.specs.Foreign.{DoesTell, StopsTelling}
 use Rattle.tor_cli.specs.Status.{status_of}
 use Rattle.tor_cli.specs.Streams.{IsUntouched, Streams}

@@ -3,7 +3,7 @@ ghost use Rattle.clap.specs.Walk.{texts};
 ghost use Rattle.std.specs.Prelude.{◌≡◌, ◌≤◌, ℕ, IfErr, IfOk, IfSome, None, Ok, OnOk, string_bytes};
 ghost use Rattle.tor_explain.specs.Plain.{IsPlainText};
 ghost use Rattle.std.specs.Io.KnownBytes.{Appends};
-ghost use Rattle.tor_meta.specs.FromInput.{IsFront};
+ghost use Rattle.tor_spec.specs.Output.{IsFront};
 ghost use Rattle.tor_cli.specs.Run.{Does, DoesAsked, IsRunOf, Stops, StopsAsked};
 ghost use Rattle.tor_cli.specs.steps.Ending.{done_of, status_after};
 ghost use Rattle.tor_cli.specs.Streams.{streams};
@@ -29,7 +29,7 @@ use crate::scan::command::scan;
 use std::io::{Read, Write};
 use std::sync::Wait;
 use std::thread::Threads;
-use tor_meta::write_out;
+use tor_spec::write_out;
 
 /// Does what the words ask for; the first word is the program's name. Answers the status: 0 done, 1 refused or answered
 /// by no, 2 usage, 3 a read or write fault, 4 memory or a thread refused. A fault is one line on `err`; on a terminal,

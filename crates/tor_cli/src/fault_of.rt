@@ -13,10 +13,11 @@ use std::alloc::{AllocError, AllocFailed};
 use std::io;
 use tor_check::{ProveError, Refusal};
 use tor_engine::EngineError;
-use tor_meta::{FromFault, MakeError, PlanError, WriteFault};
+use tor_meta::{FromFault, MakeError, PlanError};
 use tor_recheck::RecheckError;
 use tor_report::ReportFault;
 use tor_source::{InputFault, ScanFault};
+use tor_spec::WriteFault;
 use tor_tree::{ListError, NameError};
 
 impl From<InputFault> for Fault {

@@ -1,7 +1,7 @@
 //! That not all bytes went out.
 use std::io::Error;
 use std::marker::Model;
-use tor_meta::WriteFault;
+use tor_spec::WriteFault;
 
 /// How many bytes went out before a write failed, and why it did, if the system told. Contracts see the number.
 #[derive(Drop)]

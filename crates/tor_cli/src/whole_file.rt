@@ -13,7 +13,7 @@ use std::alloc::{AllocError, Global};
 use std::fs::{self, File};
 use std::io::{self, ErrorKind, Write};
 use std::rt::Files;
-use tor_meta::{WriteFault, write_out};
+use tor_spec::{WriteFault, write_out};
 
 /// Writes the bytes into the file `place`, which appears whole or not at all, or to `out` if there is none.
 pub fn send_whole<W: Write>(

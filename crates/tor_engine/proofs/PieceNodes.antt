@@ -9,7 +9,8 @@ use Rattle.tor_plan.specs.declared.units.Part.{Part}
 use Rattle.tor_plan.specs.declared.units.PlanUnit.{PlanUnit}
 use Rattle.tor_tree.specs.Kinds.{has_v2}
 use Rattle.tor_sums.specs.Hasher.{IsTreeOf}
-use Rattle.tor_engine.specs.PieceHashes.{hash_of_parts, merkle_hash}
+use Rattle.tor_merkle.specs.PieceHash.{merkle_hash}
+use Rattle.tor_engine.specs.PieceHashes.{hash_of_parts}
 use Rattle.tor_sums.specs.steps.Hashes.{bytes_of_part}
 use Rattle.tor_engine.specs.steps.Pieces.{HasPieces}
 use Rattle.tor_sums.specs.steps.Run.{IsUnitOf}

@@ -1,11 +1,8 @@
 -- What the pieces of a plan hash to, where the files have these contents. They may be shorter than the plan says, or
 -- missing: a byte past the end of a content is not there.
-use Rattle.std.specs.Prelude.{ℕ, ◌-◌, List, [], ◌∷◌, map, take, drop, nat_le, slice_index_or, Option, None, Some}
+use Rattle.std.specs.Prelude.{ℕ, ◌-◌, List, [], ◌∷◌, map, take, drop, slice_index_or, Option, None, Some}
 use Rattle.std.specs.Prelude.{if◌then◌else◌}
 use Rattle.std.specs.List.{flat_map}
-use Rattle.tor_merkle.specs.Block.{leaves}
-use Rattle.tor_merkle.specs.Layer.{piece_level, pieces_root}
-use Rattle.tor_merkle.specs.Stack.{padded_subtree}
 use Rattle.tor_plan.specs.Content.{unit_content}
 use Rattle.tor_plan.specs.Pieces.{pieces_of_unit}
 use Rattle.tor_plan.specs.PlanFacts.{PlanFacts}
@@ -14,6 +11,7 @@ use Rattle.tor_plan.specs.declared.units.Part.{Part}
 use Rattle.tor_plan.specs.declared.units.PlanUnit.{PlanUnit}
 use Rattle.tor_tree.specs.Kinds.{has_v1, has_v2}
 use Rattle.tor_v1.specs.Piece.{piece_sums}
+use Rattle.tor_merkle.specs.PieceHash.{merkle_hash}
 use Rattle.tor_engine.specs.declared.piece_hash.PieceHash.{PieceHash}
 
 -- all pieces of units, each as a unit (profile)
@@ -27,14 +25,6 @@ pieces_of_plan plan = flat_map (pieces_of_unit plan.piece_length) plan.units
 -- the pieces of a plan from one number on, and before another (profile)
 abbrev pub pieces_between : PlanFacts → ℕ → ℕ → List PlanUnit
 pieces_between plan from to = take (to - from) (drop from (pieces_of_plan plan))
-
--- the Merkle hash of a piece of a file of so many bytes: of a file longer than a piece the root over the leaves of its
--- blocks and zero leaves up to a whole piece, as in "piece layers" of BEP 52; of another the root of the file, its
--- "pieces root"
-abbrev pub merkle_hash : ℕ → ℕ → List ℕ → List ℕ
-merkle_hash piece_length size bytes =
-    if nat_le size piece_length then pieces_root bytes
-    else padded_subtree (piece_level piece_length) 0 (leaves bytes)
 
 -- that of what a part has of its file, which has the length that the plan says
 abbrev pub part_hash : PlanFacts → List (List ℕ) → Part → List ℕ

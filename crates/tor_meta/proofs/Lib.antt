@@ -24,7 +24,6 @@ pub mod SourceFaults
 pub mod Made
 pub mod InfoThere
 pub mod MadeIsValid
-mod LinkTexts
 mod PieceLengths
 pub mod PlanNames
 pub mod PresentFields

@@ -1,5 +1,5 @@
 -- What `make_from` reads and writes.
-use Rattle.std.specs.Prelude.{◌≡◌, ◌⊎◌, ◌<◌, ℕ, List, [], ◌∷◌, length, take, Option, None, Some}
+use Rattle.std.specs.Prelude.{◌≡◌, ◌⊎◌, ℕ, List, [], ◌∷◌, Option, None, Some}
 use Rattle.std.specs.Io.KnownBytes.{Appends, Keeps}
 use Rattle.std.specs.declared.io.Error.{Error}
 use Rattle.tor_meta.specs.Contents.{one_file}
@@ -15,6 +15,7 @@ use Rattle.tor_source.specs.declared.input.TheConstants.{MAX_INPUT_LENGTH}
 use Rattle.tor_tree.specs.Letters.{no_letters}
 use Rattle.tor_tree.specs.declared.attr.Attr.{Attr}
 use Rattle.tor_meta.specs.declared.from_input.FromFault.{FromFault}
+use Rattle.tor_spec.specs.Output.{IsFront}
 use Rattle.tor_meta.specs.declared.from_input.FromFault.TheVariants.{Input, Make, Write}
 
 -- the torrent of one content under the torrent's name, with these letters
@@ -41,10 +42,6 @@ pub record MakesOf (refusal : Option (MakeError Error)) (order : Order) (attr : 
 abbrev pub MakesWhole : Order → Option (List ℕ) → Option (List ℕ) → Option (List ℕ) → Option (List ℕ) → List ℕ → Type 0
 MakesWhole order reader reader' writer writer' =
     MakesOf (refusal_of order) order no_letters reader reader' (Appends writer writer')
-
--- so many bytes of a torrent, and nothing else, were written
-abbrev pub IsFront : Option (List ℕ) → Option (List ℕ) → ℕ → List ℕ → Type 0
-IsFront writer writer' written torrent = (written < length torrent) × Appends writer writer' (take written torrent)
 
 -- at a fault of the writer. All that the reader had was read, and so many bytes of its torrent, and nothing else, were
 -- written (profile)

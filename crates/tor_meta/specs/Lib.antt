@@ -9,9 +9,7 @@ pub mod Contents
 pub mod Fed
 pub mod FedIntake
 pub mod FromInput
-pub mod Hashes
 pub mod Judged
-pub mod LinkWords
 pub mod Listing
 pub mod Lots
 pub mod PieceLength

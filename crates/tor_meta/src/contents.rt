@@ -2,7 +2,7 @@
 ghost use Rattle.std.specs.Prelude.{◌≡◌, ◌⊎◌, ◌<◌, All, List, Some, None, IfOk, IfErr, OnOk, length, map, true};
 ghost use Rattle.tor_meta.specs.Contents.{files_in, IsMadeOf};
 ghost use Rattle.tor_meta.specs.steps.Contents.{bytes_of, contents_at, files_of};
-ghost use Rattle.tor_meta.specs.Hashes.{HasInfo};
+ghost use Rattle.tor_spec.specs.Hashes.{HasInfo};
 ghost use Rattle.tor_meta.specs.Head.{settings_of};
 ghost use Rattle.tor_sums.specs.Sums.{lists_of};
 ghost use Rattle.tor_meta.specs.Refusal.{contents_refusal};

@@ -19,7 +19,6 @@ use crate::head::Head;
 use crate::make_error::MakeError;
 use crate::making::{make_fed, make_summed};
 use crate::order::Order;
-use crate::output::{WriteFault, write_out};
 use std::alloc::{AllocError, Global};
 use std::io;
 use std::sync::Wait;
@@ -27,6 +26,7 @@ use std::thread::Threads;
 use tor_engine::{EngineError, Sums, hash_input};
 use tor_merkle::laws::piece_length_bounds;
 use tor_source::{InputFault, MAX_INPUT_LENGTH, drop_input, read_parts};
+use tor_spec::{WriteFault, write_out};
 use tor_tree::Attr;
 
 /// Why no whole torrent was written.

@@ -2,7 +2,7 @@
 ghost use Rattle.std.specs.Prelude.{◌≡◌, ◌<◌, List, ℕ, IfOk, length, map};
 ghost use Rattle.tor_bencode.specs.Spelling.{spelling};
 ghost use Rattle.tor_meta.specs.Contents.{files_of};
-ghost use Rattle.tor_meta.specs.Hashes.{HasInfo};
+ghost use Rattle.tor_spec.specs.Hashes.{HasInfo};
 ghost use Rattle.tor_meta.specs.Head.{settings_of};
 ghost use Rattle.tor_meta.specs.Judged.{IsJudged};
 ghost use Rattle.tor_meta.specs.Rows.{AreFactsOfRows, plan_of_head};

@@ -3,7 +3,7 @@ ghost use Rattle.std.specs.Prelude.{◌≡◌, ◌⊎◌, Some, None, IfErr, IfO
 ghost use Rattle.std.specs.Prelude.{Option, slice_index};
 ghost use Rattle.tor_sums.specs.Given.{HasToldLengths};
 ghost use Rattle.tor_meta.specs.Contents.{IsMadeOf, IsMadeOfSome, without_letters};
-ghost use Rattle.tor_meta.specs.Hashes.{HasInfo};
+ghost use Rattle.tor_spec.specs.Hashes.{HasInfo};
 ghost use Rattle.tor_meta.specs.Head.{settings_of};
 ghost use Rattle.tor_meta.specs.Make.{IsGivenTo, IsMadeOfTold, IsMakeFault, IsOwn, asked_fault, files_of_source};
 ghost use Rattle.tor_meta.specs.Make.{letters_at, listed_files, make_refusal};

@@ -4,7 +4,7 @@ ghost use Rattle.std.specs.List.{zip};
 ghost use Rattle.std.specs.declared.io.Error.{Error};
 ghost use Rattle.tor_streams.specs.Streams.{AreSumsOfContents, AreSumsOfReaders, IsFaultOfReaders};
 ghost use Rattle.tor_meta.specs.Contents.{IsMadeOfSome, files_with, without_letters};
-ghost use Rattle.tor_meta.specs.Hashes.{HasInfo};
+ghost use Rattle.tor_spec.specs.Hashes.{HasInfo};
 ghost use Rattle.tor_meta.specs.Head.{settings_of};
 ghost use Rattle.tor_meta.specs.Make.{IsOwn};
 ghost use Rattle.tor_meta.specs.MakeStreams.{IsGivenByReaders, IsMadeOfReaders, are_rising};

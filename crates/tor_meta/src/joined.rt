@@ -2,7 +2,7 @@
 ghost use Rattle.std.specs.Prelude.{◌≡◌, ◌<◌, ℕ, IfErr, IfOk, List, length, map, slice_index};
 ghost use Rattle.tor_merkle.specs.Layer.{pieces_root};
 ghost use Rattle.tor_meta.specs.Contents.{files_of};
-ghost use Rattle.tor_meta.specs.Hashes.{HasInfo};
+ghost use Rattle.tor_spec.specs.Hashes.{HasInfo};
 ghost use Rattle.tor_meta.specs.Listing.{text_of_listing};
 ghost use Rattle.tor_meta.specs.Lots.{AreAllLots, AreLotsOf, AreNotAll, IsJoinRefusal, IsJoined, IsTorrentOfLots};
 ghost use Rattle.tor_meta.specs.Lots.{plan_of_text};

@@ -1,5 +1,4 @@
-//! Making torrents (BEP 3, BEP 52, BEP 47), and what one shows of them: info hashes and the magnet
-//! link (BEP 9).
+//! Making torrents (BEP 3, BEP 52, BEP 47).
 //!
 //! - [`Head`] (`head.rt`): what a torrent is made with, beside its files. `before_lengths.rt` refuses heads and paths.
 //! - [`make_contents`] (`contents.rt`): the torrent of files whose contents lie in memory.
@@ -24,8 +23,8 @@
 //! - [`ContentsError`] (`refusals.rt`): why there is no torrent of files in memory.
 //! - `sums.rt`: the Merkle trees and the SHA-1 of the pieces, as far as a kind asks for them.
 //! - `torrent.rt`: from files and sums to bytes, by `info.rt`, `layers.rt` and `items.rt`.
-//! - [`Hashes`], [`info_hashes`], [`magnet`] (`hashes.rt`), [`magnet_with`] (`link_words.rt`); [`write_out`]
-//!   (`output.rt`): all bytes into a writer.
+//! - [`Hashes`], [`info_hashes`], [`magnet`], [`write_out`] are those of `tor_spec`: info hashes and the magnet link, and
+//!   all bytes into a writer.
 //! - [`laws`] (`laws.rt`): what is made is valid, and the limit of a span.
 //!
 //! ```rust
@@ -52,7 +51,6 @@ mod from_input;
 mod from_rows;
 mod from_source;
 mod from_streams;
-mod hashes;
 mod head;
 mod indexed_files;
 mod info;
@@ -61,7 +59,6 @@ mod join_error;
 mod joined;
 pub mod laws;
 mod layers;
-mod link_words;
 mod list_refusal;
 mod listed_files;
 mod listing;
@@ -71,7 +68,6 @@ mod lots;
 mod make_error;
 mod making;
 mod order;
-mod output;
 mod piece_length;
 mod plan_reading;
 mod plan_text;
@@ -87,11 +83,9 @@ pub use from_input::{FromFault, make_from, torrent_by_streams, torrent_from};
 pub use from_rows::{plan_of_list, torrent_of_rows};
 pub use from_source::{make, make_with};
 pub use from_streams::{make_streams, make_streams_with};
-pub use hashes::{Hashes, info_hashes, magnet};
 pub use head::Head;
 pub use join_error::JoinError;
 pub use joined::join_lots;
-pub use link_words::magnet_with;
 pub use list_refusal::refusal_of_list;
 pub use listing::Listing;
 pub use listing_error::{ListingError, PlanError};
@@ -99,8 +93,8 @@ pub use lots::make_lot;
 pub use make_error::MakeError;
 pub use making::make_fed;
 pub use order::{MAX_SPAN, Order};
-pub use output::{WriteFault, write_out};
 pub use piece_length::auto_piece_length;
 pub use planned::make_plan;
 pub use plans::{plan_digest, read_plan, write_plan};
 pub use refusals::ContentsError;
+pub use tor_spec::{Hashes, WriteFault, info_hashes, magnet, write_out};

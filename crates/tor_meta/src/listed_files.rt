@@ -6,7 +6,7 @@ ghost use Rattle.tor_sums.specs.Given.{IsGivenNotMissing};
 ghost use Rattle.tor_sums.specs.How.{IsHow};
 ghost use Rattle.tor_bencode.specs.Spelling.{spelling};
 ghost use Rattle.tor_meta.specs.Contents.{files_of};
-ghost use Rattle.tor_meta.specs.Hashes.{HasInfo};
+ghost use Rattle.tor_spec.specs.Hashes.{HasInfo};
 ghost use Rattle.tor_meta.specs.Head.{settings_of};
 ghost use Rattle.tor_meta.specs.Rows.{plan_of_head};
 ghost use Rattle.tor_meta.specs.steps.Sums.{AreFactsOf, HaveTrees, IsJudged, IsPlanOf, SumUp, SumUpSome};

@@ -3,7 +3,7 @@ ghost use Rattle.std.specs.Prelude.{◌≡◌, ◌≤◌, ◌∷◌, [], ℕ, Li
 ghost use Rattle.tor_merkle.specs.declared.TheConstants.{MAX_LENGTH};
 ghost use Rattle.tor_meta.specs.Fed.{HasFed, tail_length};
 ghost use Rattle.tor_meta.specs.steps.Sums.{SumsOfOne};
-ghost use Rattle.tor_meta.specs.Hashes.{HasInfo};
+ghost use Rattle.tor_spec.specs.Hashes.{HasInfo};
 ghost use Rattle.tor_meta.specs.Head.{settings_of};
 ghost use Rattle.tor_meta.specs.Refusal.{paths_refusal};
 ghost use Rattle.tor_meta.specs.Contents.{one_file};

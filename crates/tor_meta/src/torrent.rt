@@ -4,7 +4,7 @@ ghost use Rattle.tor_bencode.specs.Data.{string, dictionary};
 ghost use Rattle.tor_bencode.specs.Find.{value_of};
 ghost use Rattle.tor_bencode.specs.Spelling.{spelling};
 ghost use Rattle.tor_bencode.specs.View.{view};
-ghost use Rattle.tor_meta.specs.Hashes.{HasInfo};
+ghost use Rattle.tor_spec.specs.Hashes.{HasInfo};
 ghost use Rattle.tor_meta.specs.Head.{settings_of};
 ghost use Rattle.tor_meta.specs.steps.Sums.{AreFactsOf, HaveTrees, IsJudged};
 ghost use Rattle.tor_spec.specs.Dictionary.{when};

@@ -11,8 +11,9 @@ use std::alloc::Global;
 use std::thread::Threads;
 use tor_check::Torrent;
 use tor_engine::How;
-use tor_recheck::{Bits, RecheckError, recheck};
+use tor_recheck::{RecheckError, recheck};
 use tor_source::Source;
+use tor_view::Bits;
 
 /// Which pieces of a torrent are there, and have each hash that it has for them, or the first fault.
 pub fn pieces_that_hold<S: Source, R: Threads + Sync>(

@@ -7,11 +7,11 @@ use Rattle.tor_recheck.proofs.Names.{get_or-map, get_or-map-range_with_len, byte
 use Rattle.tor_recheck.proofs.Names.{held_pieces, joined_spans, no_span, tree_spans, AllHold, AreThere, FileSpan, IsCut}
 use Rattle.tor_recheck.proofs.Names.{Whole, bytes_in, is_whole, joined_bytes, is_sha1_piece, is_verified, merkle_pieces}
 use Rattle.tor_recheck.proofs.Names.{verified_pieces, View, has_v1, has_v2, piece_sums}
-use Rattle.tor_recheck.proofs.FileStates.{whole_is}
-use Rattle.tor_recheck.proofs.FilesThere.{there_in_entries, there_in_tree}
+use Rattle.tor_view.proofs.FileStates.{whole_is}
+use Rattle.tor_view.proofs.FilesThere.{there_in_entries, there_in_tree}
 use Rattle.tor_recheck.proofs.HeldLaws.{verified_hold}
-use Rattle.tor_recheck.proofs.PieceSides.{other_side, some_piece}
-use Rattle.tor_recheck.proofs.SpanBounds.{spans_are_within}
+use Rattle.tor_view.proofs.PieceSides.{other_side, some_piece}
+use Rattle.tor_view.proofs.SpanBounds.{spans_are_within}
 
 pub first_of_sides : (one two x y : Bool) → one ≡ true → ((not one || x) && (not two || y)) ≡ true → x ≡ true
 first_of_sides true two x y some both = (and_parts x (not two || y) both).0

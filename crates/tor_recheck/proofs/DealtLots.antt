@@ -3,7 +3,7 @@ use Rattle.tor_recheck.proofs.Names.{◌≡◌, ℕ, zero, suc, ◌+◌, ◌-◌
 use Rattle.tor_recheck.proofs.Names.{◌++◌, length, take, drop, arith, sym, ap, ap₂, ◌∙◌, min, append-nil, inl, inr}
 use Rattle.tor_recheck.proofs.Names.{sum_by, cases_lt, div_ceil_times, length-take, take_all, sum_by-append, sum_by-cons}
 use Rattle.tor_recheck.proofs.Names.{div-add-mod', mod-lt, div_ceil, flat_map, range_with_len, bitfield, set_count}
-use Rattle.tor_recheck.proofs.Bitfields.{bitfields_joined}
+use Rattle.tor_view.proofs.Bitfields.{bitfields_joined}
 use Rattle.tor_recheck.specs.Lots.{first_of_lot, in_lot, lot_byte}
 use Rattle.std.proofs.Math.Nat.{mul-mod_left}
 use Rattle.std.proofs.Math.Seq.{take-add}

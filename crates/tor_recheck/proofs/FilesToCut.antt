@@ -3,7 +3,7 @@ use Rattle.std.proofs.lemmas.List.Sums.{sum-map}
 use Rattle.std.proofs.lemmas.Simd.{map-map}
 use Rattle.tor_recheck.proofs.Names.{◌≡◌, ◌≢◌, ℕ, false, List, [], ◌∷◌, map, sum, refl, ap, ◌∙◌, sym, cond-false, Entry}
 use Rattle.tor_recheck.proofs.Names.{FileView, View, Kind, Hybrid, entries_length, entries_to_cut, has_padding, has_v1}
-use Rattle.tor_recheck.proofs.EntryBounds.{told_entry}
+use Rattle.tor_view.proofs.EntryBounds.{told_entry}
 
 abbrev length_told : FileView → ℕ
 length_told told = told.file.length

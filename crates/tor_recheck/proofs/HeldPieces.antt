@@ -8,8 +8,8 @@ use Rattle.tor_recheck.proofs.Names.{entries_to_cut, IsCut, piece_root, pieces_o
 use Rattle.tor_recheck.proofs.Names.{all_judged, all_merkle_judged, is_merkle_found, merkle_judged, hashes_in}
 use Rattle.tor_recheck.proofs.Names.{file_pieces, is_merkle_piece, merkle_pieces, verified_pieces, pieces_in, FileView}
 use Rattle.tor_recheck.proofs.Names.{View, has_v2}
-use Rattle.tor_recheck.proofs.MerklePieces.{length_of}
-use Rattle.tor_recheck.proofs.ProvedLaws.{by_merkle, pieces_are_counted}
+use Rattle.tor_view.proofs.MerklePieces.{length_of}
+use Rattle.tor_view.proofs.ProvedLaws.{by_merkle, pieces_are_counted}
 use Rattle.tor_recheck.proofs.Rechecked.{judged_is_verified, pieces_are, same_root, told_side}
 use Rattle.tor_engine.specs.PieceHashes as engine
 use Rattle.std.proofs.lemmas.List as lists

@@ -2,7 +2,7 @@
 use Rattle.tor_recheck.proofs.Names.{◌≡◌, ℕ, ◌+◌, Bool, List, [], ◌∷◌, ◌++◌, None, Option, length, map, drop, get_or}
 use Rattle.tor_recheck.proofs.Names.{arith, ap, ap₂, sym, ◌∙◌, drop-drop, map-range_with_len_more, range_with_len}
 use Rattle.tor_recheck.proofs.Names.{zero-add, PieceHash}
-use Rattle.tor_recheck.proofs.FromIndex.{first_of}
+use Rattle.tor_view.proofs.FromIndex.{first_of}
 
 -- so many pieces have their bits; the hashes of the others are left, and those that the torrent has for them
 pub record AreJudgedTo (judge : ℕ → Bool) (hashes left : List (Option PieceHash)) (roots told : List (List ℕ))

@@ -13,7 +13,7 @@ use Rattle.tor_recheck.proofs.Names.{PlanUnit, filter, length-drop, length-take,
 use Rattle.tor_recheck.proofs.Names.{first_asked_fault, pieces_fault, IsFault, EngineError, is_some}
 use Rattle.tor_recheck.proofs.DealtLots.{lots_rise}
 use Rattle.tor_recheck.proofs.LotFound.{bits_of_lot, faults_same, hashes_same, units_counted}
-use Rattle.tor_recheck.proofs.ProvedLaws.{pieces_are_counted}
+use Rattle.tor_view.proofs.ProvedLaws.{pieces_are_counted}
 use Rattle.tor_recheck.proofs.Rechecked.{count_is, count_of_judged, pieces_are}
 use Rattle.tor_recheck.specs.Lots.{IsFileOfLot, first_lot_fault, first_of_lot, in_lot, lot_byte}
 use Rattle.tor_recheck.specs.steps.Hashes.{cut_plan, hashes_in_lot}

@@ -8,6 +8,7 @@ use Rattle.tor_recheck.proofs.Names.{asked_fault, pieces_fault, filter, list_all
 use Rattle.tor_recheck.proofs.Names.{get_or-map-range_with_len, Read}
 use Rattle.tor_recheck.specs.steps.Lots.{is_own, own_facts}
 use Rattle.tor_engine.specs.PieceFault.{piece_fault}
+use Rattle.tor_merkle.specs.PieceHash as piece_hash
 use Rattle.tor_engine.specs.PieceHashes as engine
 use Rattle.tor_sums.specs.Fault.{part_fault}
 
@@ -36,7 +37,7 @@ module _ (contents other : List (List ℕ)) where
       → engine.hash_of_parts plan contents parts ≡ engine.hash_of_parts plan other parts
   same_root plan [] same = refl
   same_root plan (part ∷ parts) same =
-      ap (λ (file : List ℕ). engine.merkle_hash plan.piece_length (get_or plan.lengths part.file 0)
+      ap (λ (file : List ℕ). piece_hash.merkle_hash plan.piece_length (get_or plan.lengths part.file 0)
       (take part.length (drop part.start file))) same.0
 
   same_hash : (plan : PlanFacts) (unit : PlanUnit) → AllByRecursion Same unit.parts

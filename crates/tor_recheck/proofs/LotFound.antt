@@ -9,10 +9,10 @@ use Rattle.tor_recheck.proofs.Names.{IsCut, entries_to_cut, pieces_of, right_pie
 use Rattle.tor_recheck.proofs.Names.{verified_pieces, View, SourceFacts, lengths_of_entries, option_or}
 use Rattle.tor_recheck.proofs.Names.{first_asked_fault, pieces_fault, asked_fault, first_of, length-take}
 use Rattle.tor_recheck.proofs.Names.{length-drop, All-from_recursion, filter, is_right}
-use Rattle.tor_recheck.proofs.FromIndex.{range_split}
+use Rattle.tor_view.proofs.FromIndex.{range_split}
 use Rattle.tor_recheck.proofs.LotFiles.{asked_own, own_content, same_hashes, same_pieces}
 use Rattle.tor_recheck.proofs.LotPieces.{dropped, pieces_within, taken}
-use Rattle.tor_recheck.proofs.ProvedLaws.{pieces_are_verified_by_units}
+use Rattle.tor_view.proofs.ProvedLaws.{pieces_are_verified_by_units}
 use Rattle.tor_recheck.proofs.Rechecked.{count_is, judged_from}
 use Rattle.tor_recheck.specs.steps.Lots.{is_own, own_facts}
 use Rattle.tor_plan.specs.WithinEntries.{IsUnitWithin}

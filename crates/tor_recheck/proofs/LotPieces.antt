@@ -4,7 +4,7 @@ use Rattle.tor_recheck.proofs.Names.{arith, zero, suc}
 use Rattle.tor_recheck.proofs.Names.{AllByRecursion, All}
 use Rattle.tor_recheck.proofs.Names.{View, IsCut, entries_to_cut, pieces_of}
 use Rattle.tor_recheck.proofs.Names.{lengths_of_entries}
-use Rattle.tor_recheck.proofs.PieceSides.{some_piece}
+use Rattle.tor_view.proofs.PieceSides.{some_piece}
 use Rattle.tor_plan.proofs.ProvedLaws.{entry_units_are_within_files}
 use Rattle.tor_plan.specs.WithinEntries.{IsUnitWithin}
 

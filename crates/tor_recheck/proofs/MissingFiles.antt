@@ -10,11 +10,11 @@ use Rattle.tor_recheck.proofs.Names.{has_root, has_sha1, IsCut, pieces_of, file_
 use Rattle.tor_recheck.proofs.Names.{AreThere, Bad, is_sha1_piece, is_verified, merkle_pieces}
 use Rattle.tor_recheck.proofs.Names.{verified_pieces, View, has_v1, has_v2}
 use Rattle.tor_recheck.proofs.AllSet.{first_of_sides}
-use Rattle.tor_recheck.proofs.FileStates.{bad_is}
-use Rattle.tor_recheck.proofs.PartsOfFiles.{spans_have_bytes}
-use Rattle.tor_recheck.proofs.PieceSides.{other_side, some_piece}
-use Rattle.tor_recheck.proofs.ProvedLaws.{by_merkle, by_sha1, pieces_are_counted}
-use Rattle.tor_recheck.proofs.SpanBounds.{spans_are_within}
+use Rattle.tor_view.proofs.FileStates.{bad_is}
+use Rattle.tor_view.proofs.PartsOfFiles.{spans_have_bytes}
+use Rattle.tor_view.proofs.PieceSides.{other_side, some_piece}
+use Rattle.tor_view.proofs.ProvedLaws.{by_merkle, by_sha1, pieces_are_counted}
+use Rattle.tor_view.proofs.SpanBounds.{spans_are_within}
 use Rattle.tor_plan.proofs.ProvedLaws.{entry_units_are_within_files}
 use Rattle.tor_plan.specs.WithinEntries.{IsInFile, IsUnitWithin}
 use Rattle.std.proofs.lemmas.Bool.{or_cases}

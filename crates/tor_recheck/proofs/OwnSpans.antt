@@ -7,12 +7,12 @@ use Rattle.std.proofs.lemmas.Bool.{le-ltb, lt-ltb}
 use Rattle.std.proofs.lemmas.List.{get_or-map, get_or_default}
 use Rattle.std.proofs.lemmas.List.Folds.{list_any_at, list_any_none}
 use Rattle.std.specs.Prelude.{max, min}
-use Rattle.tor_recheck.proofs.PartsOfFiles.{in_span_have_bytes}
-use Rattle.tor_recheck.proofs.ProvedLaws.{pieces_are_counted}
-use Rattle.tor_recheck.proofs.SpanBytes.{in_span, in_span_is, not_in}
-use Rattle.tor_recheck.proofs.SpanSteps.{spans_are_counted}
-use Rattle.tor_recheck.specs.declared.spans.FileSpan.{FileSpan}
-use Rattle.tor_recheck.specs.FileBytes.{PiecedFile, has_piece_between, pieced_files}
+use Rattle.tor_view.proofs.PartsOfFiles.{in_span_have_bytes}
+use Rattle.tor_view.proofs.ProvedLaws.{pieces_are_counted}
+use Rattle.tor_view.proofs.SpanBytes.{in_span, in_span_is, not_in}
+use Rattle.tor_view.proofs.SpanSteps.{spans_are_counted}
+use Rattle.tor_view.specs.declared.spans.FileSpan.{FileSpan}
+use Rattle.tor_view.specs.FileBytes.{PiecedFile, has_piece_between, pieced_files}
 
 module _ (view : View) (cut : IsCut view) (from to : ℕ) (ordered : from ≤ to) (within : to ≤ view.piece_count) where
   abbrev run : List PlanUnit

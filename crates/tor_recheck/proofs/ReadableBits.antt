@@ -14,7 +14,7 @@ use Rattle.tor_engine.specs.Readable.{hash_if_readable}
 use Rattle.tor_recheck.specs.Readable.{contents_seen, readable_held, readable_pieces, those_readable}
 use Rattle.tor_recheck.specs.steps.Hashes.{cut_plan}
 use Rattle.tor_recheck.proofs.HeldPieces.{judged_is_held}
-use Rattle.tor_recheck.proofs.ProvedLaws.{pieces_are_counted}
+use Rattle.tor_view.proofs.ProvedLaws.{pieces_are_counted}
 use Rattle.tor_recheck.proofs.Rechecked.{judged_is_verified, pieces_are}
 use Rattle.std.proofs.lemmas.List as lists
 

@@ -9,10 +9,11 @@ use Rattle.tor_recheck.proofs.Names.{units_are_cut_into_pieces, IsCut, entries_t
 use Rattle.tor_recheck.proofs.Names.{piece_root, pieces_of, right_pieces, root_of_parts, told_hashes, all_judged}
 use Rattle.tor_recheck.proofs.Names.{is_found, is_told, judged, merkle_hash, verified_pieces, FileView, View, has_v1}
 use Rattle.tor_recheck.proofs.Names.{has_v2, piece_sums}
-use Rattle.tor_recheck.proofs.FromIndex.{first_of}
-use Rattle.tor_recheck.proofs.MerklePieces.{length_of}
-use Rattle.tor_recheck.proofs.PieceSides.{same_lengths, some_piece}
-use Rattle.tor_recheck.proofs.ProvedLaws.{pieces_are_verified_by_units}
+use Rattle.tor_view.proofs.FromIndex.{first_of}
+use Rattle.tor_view.proofs.MerklePieces.{length_of}
+use Rattle.tor_view.proofs.PieceSides.{same_lengths, some_piece}
+use Rattle.tor_view.proofs.ProvedLaws.{pieces_are_verified_by_units}
+use Rattle.tor_merkle.specs.PieceHash as piece_hash
 use Rattle.tor_engine.specs.PieceHashes as engine
 
 -- where a torrent has a side, its hash is compared
@@ -23,7 +24,7 @@ told_side false hash told = refl
 
 -- the Merkle hash of a piece, by the length of its file
 same_hash : (p : ℕ) (told : FileView) (bytes : List ℕ)
-    → engine.merkle_hash p (length_of told) bytes ≡ merkle_hash p told bytes
+    → piece_hash.merkle_hash p (length_of told) bytes ≡ merkle_hash p told bytes
 same_hash p told bytes =
     let small = pieces_root bytes in
     let long = padded_subtree (piece_level p) 0 (leaves bytes) in
@@ -49,8 +50,8 @@ module _ (view : View) (contents : List (List ℕ)) (cut : IsCut view) where
   same_part : (part : Part) → engine.part_hash plan contents part ≡ part_root view contents part
   same_part part =
       let bytes = take part.length (drop part.start (get_or contents part.file [])) in
-      ap (λ sizes. engine.merkle_hash view.piece_length (get_or sizes part.file 0) bytes) (same_lengths view cut)
-      ∙ ap (λ size. engine.merkle_hash view.piece_length size bytes) (get_or-map length_of view.files part.file no_file)
+      ap (λ sizes. piece_hash.merkle_hash view.piece_length (get_or sizes part.file 0) bytes) (same_lengths view cut)
+      ∙ ap (λ size. piece_hash.merkle_hash view.piece_length size bytes) (get_or-map length_of view.files part.file no_file)
       ∙ same_hash view.piece_length (get_or view.files part.file no_file) bytes
 
   pub same_root : (parts : List Part) → engine.hash_of_parts plan contents parts ≡ root_of_parts view contents parts

@@ -3,7 +3,7 @@ use Rattle.tor_recheck.proofs.Names.{◌≡◌, ℕ, ◌+◌, ◌-◌, ◌<◌, 
 use Rattle.tor_recheck.proofs.Names.{ap, ap₂, sym, ◌∙◌, zero-add, drop-append-add, drop_of_length-le, flat_map}
 use Rattle.tor_recheck.proofs.Names.{get_or-map-range_with_len, get_or_append_left, length-map-range_with_len}
 use Rattle.tor_recheck.proofs.Names.{hashes_of_file, pieces_in, told_hash, FileView}
-use Rattle.tor_recheck.proofs.FromIndex.{first_of}
+use Rattle.tor_view.proofs.FromIndex.{first_of}
 
 -- those of files after the first so many of them
 abbrev pub hashes_from : ℕ → ℕ → List FileView → List (List ℕ)

@@ -2,9 +2,9 @@
 use Rattle.std.specs.Prelude.{◌≡◌, ℕ, Bool, true, false, List, map, slice_index_or, Option}
 use Rattle.tor_engine.specs.There.{is_within}
 use Rattle.tor_plan.specs.Entries.{empty_unit}
-use Rattle.tor_recheck.specs.Files.{files_found}
-use Rattle.tor_recheck.specs.Pieces.{pieces_of}
-use Rattle.tor_recheck.specs.declared.files.FileFound.{FileFound}
+use Rattle.tor_view.specs.Files.{files_found}
+use Rattle.tor_view.specs.Pieces.{pieces_of}
+use Rattle.tor_view.specs.declared.files.FileFound.{FileFound}
 use Rattle.tor_recheck.specs.declared.rechecking_files.Findings.{Findings}
 use Rattle.tor_spec.specs.valid.View.{View}
 use Rattle.tor_tree.specs.Kinds.{has_v2}

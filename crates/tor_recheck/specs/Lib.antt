@@ -1,9 +1,5 @@
-pub mod Bitfield
-pub mod FileBytes
-pub mod Files
 pub mod Findings
 pub mod Lots
-pub mod Pieces
 pub mod Readable
 pub mod Recheck
 pub mod steps

@@ -5,8 +5,8 @@ use Rattle.std.specs.Int.{div_ceil}
 use Rattle.std.specs.List.{list_any, range_with_len}
 use Rattle.std.specs.Option.{option_or}
 use Rattle.tor_engine.specs.PieceFault.{asked_fault, pieces_fault}
-use Rattle.tor_recheck.specs.Files.{has_bytes_of}
-use Rattle.tor_recheck.specs.Pieces.{pieces_of}
+use Rattle.tor_view.specs.Files.{has_bytes_of}
+use Rattle.tor_view.specs.Pieces.{pieces_of}
 use Rattle.tor_recheck.specs.Recheck.{of_engine_error}
 use Rattle.tor_recheck.specs.declared.errors.RecheckError.{RecheckError}
 use Rattle.tor_recheck.specs.declared.errors.RecheckError.TheVariants.{Changed, Read, Resources, Workers}

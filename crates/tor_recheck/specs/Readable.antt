@@ -6,8 +6,8 @@ use Rattle.tor_engine.specs.PieceFault.{asked_fault, piece_fault}
 use Rattle.tor_engine.specs.Readable.{error_of_fault, piece_faults, read_faults, seen_contents}
 use Rattle.tor_engine.specs.declared.read_fault.ReadFault.{ReadFault}
 use Rattle.tor_plan.specs.Entries.{empty_unit}
-use Rattle.tor_recheck.specs.Files.{held_pieces}
-use Rattle.tor_recheck.specs.Pieces.{pieces_of}
+use Rattle.tor_view.specs.Files.{held_pieces}
+use Rattle.tor_view.specs.Pieces.{pieces_of}
 use Rattle.tor_recheck.specs.Recheck.{IsGiven, of_engine_error}
 use Rattle.tor_recheck.specs.declared.errors.RecheckError.{RecheckError}
 use Rattle.tor_recheck.specs.declared.errors.RecheckError.TheVariants.{Changed, Read, Resources, Workers}

@@ -7,7 +7,7 @@ use Rattle.tor_sums.specs.Given.{IsGivenPieces}
 use Rattle.tor_engine.specs.PieceFault.{first_asked_fault, pieces_fault}
 use Rattle.tor_sums.specs.declared.errors.EngineError.{EngineError}
 use Rattle.tor_sums.specs.declared.errors.EngineError.TheVariants as engine
-use Rattle.tor_recheck.specs.Pieces.{pieces_of}
+use Rattle.tor_view.specs.Pieces.{pieces_of}
 use Rattle.tor_recheck.specs.declared.errors.RecheckError.{RecheckError}
 use Rattle.tor_recheck.specs.declared.errors.RecheckError.TheVariants.{Read, Changed, Resources, Workers}
 use Rattle.tor_source.specs.Answers.{Answers}

@@ -1,6 +1,6 @@
 //! The Merkle hashes that a torrent has for its pieces.
 ghost use Rattle.std.specs.Prelude.{◌≡◌, ◌<◌, [], drop, slice_index_or, unwrap_or};
-ghost use Rattle.tor_recheck.specs.Pieces.{told_hashes};
+ghost use Rattle.tor_view.specs.Pieces.{told_hashes};
 ghost use Rattle.tor_spec.specs.Verified.{told_hash};
 
 use std::marker::Model;
@@ -21,7 +21,7 @@ pub(crate) struct ToldHashes<'a> {
 impl<'a> Model for ToldHashes<'a> {
     ghost use Rattle.std.specs.Prelude.{◌<◌, List, ℕ, drop};
     ghost use Rattle.std.specs.List.{flat_map};
-    ghost use Rattle.tor_recheck.specs.Pieces.{hashes_of_file};
+    ghost use Rattle.tor_view.specs.Pieces.{hashes_of_file};
 
     ghost Value = { List (List ℕ) };
 

@@ -1,15 +1,15 @@
 //! A source of which some files alone are asked and read.
 ghost use Rattle.std.specs.Prelude.{◌≡◌, ◌-◌, ◌≤◌, IfOk, drop, length, map, take};
 ghost use Rattle.std.specs.List.{list_any, range_with_len};
-ghost use Rattle.tor_recheck.specs.Files.{has_bytes_of};
-ghost use Rattle.tor_recheck.specs.Pieces.{IsCut, pieces_of};
+ghost use Rattle.tor_view.specs.Files.{has_bytes_of};
+ghost use Rattle.tor_view.specs.Pieces.{IsCut, pieces_of};
 ghost use Rattle.tor_recheck.specs.steps.Lots.{is_own, own_answers, own_facts};
 ghost use Rattle.tor_source.specs.Source.{SourceFacts};
 
-use crate::file_pieces::files_in_pieces;
 use std::alloc::{AllocError, Global};
 use tor_check::Torrent;
 use tor_source::Source;
+use tor_view::files_in_pieces;
 
 /// A source of which those files alone are asked that are its own; each other one is missing.
 #[derive(Drop)]

@@ -4,12 +4,12 @@ ghost use Rattle.std.specs.Str.{bytes_eq};
 ghost use Rattle.tor_recheck.specs.steps.Judge.{all_judged, all_merkle_judged, is_found, is_merkle_found};
 ghost use Rattle.tor_recheck.specs.steps.Judge.{is_told};
 
-use crate::bits::Bits;
 use crate::merkle_hashes::ToldHashes;
 use std::alloc::{AllocError, Global};
 use tor_check::Torrent;
 use tor_engine::{PieceHash, PieceHashes};
 use tor_merkle::Hash;
+use tor_view::Bits;
 
 /// The length of a SHA-1.
 const SUM_LENGTH: usize = 20;

@@ -6,7 +6,7 @@ ghost use Rattle.tor_sums.specs.How.{IsHow};
 ghost use Rattle.tor_engine.specs.PieceFault.{lengths_told};
 ghost use Rattle.tor_plan.specs.PlanFacts.{IsSpan, plan_of_entries};
 ghost use Rattle.tor_engine.specs.There.{HaveHashesOf};
-ghost use Rattle.tor_recheck.specs.Pieces.{IsCut, entries_to_cut, pieces_of};
+ghost use Rattle.tor_view.specs.Pieces.{IsCut, entries_to_cut, pieces_of};
 ghost use Rattle.tor_recheck.specs.Recheck.{IsFault, IsGiven, first_fault};
 ghost use Rattle.tor_recheck.specs.declared.errors.RecheckError.TheVariants.{Workers};
 ghost use Rattle.tor_recheck.specs.steps.Hashes.{hashes_in};
@@ -15,7 +15,6 @@ ghost use Rattle.tor_recheck.specs.declared.rechecking.TheConstants.{SPAN};
 ghost use Rattle.tor_spec.specs.Verified.{verified_pieces};
 ghost use Rattle.tor_tree.specs.Kinds.{has_v1};
 
-use crate::bits::Bits;
 use crate::errors::RecheckError;
 use crate::piece_bits::verified_bits;
 use std::alloc::{AllocError, Global};
@@ -25,6 +24,7 @@ use tor_engine::{FoundPieces, How, find_pieces};
 use tor_plan::Plan;
 use tor_source::Source;
 use tor_v1::Entry;
+use tor_view::Bits;
 
 /// The pieces that a worker takes at a time, at most.
 pub(crate) const SPAN: u32 = 16;

@@ -4,7 +4,7 @@ ghost use Rattle.tor_sums.specs.Contents.{contents_in};
 ghost use Rattle.tor_sums.specs.Given.{HasTold};
 ghost use Rattle.tor_sums.specs.How.{IsHow};
 ghost use Rattle.tor_engine.specs.PieceFault.{lengths_told};
-ghost use Rattle.tor_recheck.specs.Files.{files_found, held_pieces};
+ghost use Rattle.tor_view.specs.Files.{files_found, held_pieces};
 ghost use Rattle.tor_recheck.specs.Findings.{AreFoundWithin};
 ghost use Rattle.tor_recheck.specs.Recheck.{IsFault, IsGiven, first_fault};
 ghost use Rattle.tor_recheck.specs.declared.errors.RecheckError.TheVariants.{Workers};
@@ -12,9 +12,7 @@ ghost use Rattle.tor_recheck.specs.steps.Judge.{all_held, all_judged};
 ghost use Rattle.tor_source.specs.Source.{SourceFacts};
 ghost use Rattle.tor_spec.specs.Verified.{verified_pieces};
 
-use crate::bits::Bits;
 use crate::errors::RecheckError;
-use crate::files::{FileFound, files_of};
 use crate::piece_bits::{merkle_verified_bits, verified_bits};
 use crate::rechecking::found_in;
 use std::alloc::{AllocError, Global};
@@ -22,6 +20,7 @@ use std::thread::Threads;
 use tor_check::Torrent;
 use tor_engine::{FoundPieces, How};
 use tor_source::Source;
+use tor_view::{Bits, FileFound, files_of};
 
 /// What is told of a torrent's pieces and of its files.
 #[derive(Drop)]

@@ -2,7 +2,7 @@
 ghost use Rattle.std.specs.Prelude.{◌≡◌, ◌≢◌, ◌+◌, ◌++◌, ◌-◌, ◌<◌, ◌≤◌, ◌^◌, Err, IfErr, IfOk, MatchResult, None, OnOk};
 ghost use Rattle.std.specs.Prelude.{drop, length, replicate, take};
 ghost use Rattle.tor_recheck.specs.Lots.{IsOfLot, first_lot_fault, first_of_lot, in_lot, lot_byte};
-ghost use Rattle.tor_recheck.specs.Pieces.{IsCut};
+ghost use Rattle.tor_view.specs.Pieces.{IsCut};
 ghost use Rattle.tor_recheck.specs.Recheck.{IsFault, IsGiven};
 ghost use Rattle.tor_recheck.specs.declared.errors.RecheckError.TheVariants.{Workers};
 ghost use Rattle.tor_recheck.specs.steps.Hashes.{hashes_in_lot};
@@ -12,7 +12,6 @@ ghost use Rattle.tor_spec.specs.Verified.{verified_pieces};
 ghost use Rattle.tor_sums.specs.Contents.{contents_in};
 ghost use Rattle.tor_sums.specs.How.{IsHow};
 
-use crate::bits::Bits;
 use crate::errors::RecheckError;
 use crate::own_files::{OwnFiles, own_files};
 use crate::piece_bits::verified_bits;
@@ -22,6 +21,7 @@ use std::thread::Threads;
 use tor_check::Torrent;
 use tor_engine::{How, PieceHashes, find_pieces_between};
 use tor_source::Source;
+use tor_view::Bits;
 
 /// Which of the pieces of one of so many lots are there and right, as [`recheck`](crate::recheck) tells of all. The
 /// bytes of the bitfield are dealt, the first lots perhaps one more than the others, and a lot has the pieces of its

@@ -3,7 +3,7 @@ use Rattle.std.proofs.Common.{◌≡◌, ℕ, List, ◌++◌, Result, Ok, Err, a
 use Rattle.std.specs.Prelude.{IfErr, OnOk}
 use Rattle.tor_report.specs.Sinks.{IsSink}
 use Rattle.std.specs.Result.{IsErr, IsErrAnd}
-use Rattle.tor_meta.specs.declared.output.WriteFault.{WriteFault}
+use Rattle.tor_spec.specs.declared.output.WriteFault.{WriteFault}
 use Rattle.tor_report.specs.Put.{Puts, Stops}
 use Rattle.tor_report.specs.declared.buffer.Buffer.{Buffer}
 use Rattle.tor_report.proofs.Putting.{puts_both, stops_later, stops_sooner}

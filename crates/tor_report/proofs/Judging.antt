@@ -4,7 +4,7 @@ use Rattle.std.proofs.Common.{unwrap_or}
 use Rattle.std.specs.Prelude.{IsSome, drop, find}
 use Rattle.tor_bencode.specs.Data.{Data, dictionary, no_pairs}
 use Rattle.tor_bencode.specs.Find.{value_of}
-use Rattle.tor_meta.specs.Hashes.{HasInfo}
+use Rattle.tor_spec.specs.Hashes.{HasInfo}
 use Rattle.tor_spec.specs.valid.Conditions.{IsTorrentOf, InfoShape, RootShape, conditions, holds, refusal_of}
 use Rattle.tor_spec.specs.valid.Heads.{lacks_dictionary}
 use Rattle.tor_spec.specs.valid.Parts.{info_of}

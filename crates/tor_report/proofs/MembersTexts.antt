@@ -8,9 +8,9 @@ use Rattle.serde_json.specs.Data.{Data, array, boolean, object}
 use Rattle.serde_json.specs.View.{items_of}
 use Rattle.serde_json.specs.Written.{compact_text, items_text}
 use Rattle.tor_bencode.specs.Data.{Data as Tree}
-use Rattle.tor_meta.specs.declared.hashes.Hashes.{Hashes}
-use Rattle.tor_recheck.specs.FileBytes.{PiecedFile}
-use Rattle.tor_recheck.specs.declared.spans.FileSpan.{FileSpan}
+use Rattle.tor_spec.specs.declared.hashes.Hashes.{Hashes}
+use Rattle.tor_view.specs.FileBytes.{PiecedFile}
+use Rattle.tor_view.specs.declared.spans.FileSpan.{FileSpan}
 use Rattle.tor_spec.specs.valid.View.{FileView, View}
 use Rattle.tor_tree.specs.declared.tree_file.TreeFile.{TreeFile}
 use Rattle.tor_report.specs.Records.{file_data, files_data, hash_data, members_of, path_data, placed_data, total_length}

@@ -2,8 +2,8 @@
 use Rattle.std.proofs.Common.{◌≡◌, refl, sym, subst, ℕ, List, Result, Ok, Err}
 use Rattle.std.specs.Prelude.{Option, IfErr}
 use Rattle.std.specs.Result.{IsErr, IsErrAnd}
-use Rattle.tor_meta.specs.FromInput.{IsFront}
-use Rattle.tor_meta.specs.declared.output.WriteFault.{WriteFault}
+use Rattle.tor_spec.specs.Output.{IsFront}
+use Rattle.tor_spec.specs.declared.output.WriteFault.{WriteFault}
 use Rattle.tor_report.specs.Reports.{IsCutShort, IsReportStopped}
 use Rattle.tor_report.specs.Sinks.{IsStopped}
 use Rattle.tor_report.specs.declared.fault.ReportFault.{ReportFault}

@@ -5,7 +5,7 @@ use Rattle.std.proofs.lemmas.List.Filters.{sum_by-filter_both}
 use Rattle.std.proofs.lemmas.List.Sums.{sum-map, sum_by-cons}
 use Rattle.std.specs.Prelude.{not, sum}
 use Rattle.tor_plan.specs.Entries.{entries_length}
-use Rattle.tor_recheck.specs.Pieces.{IsCut}
+use Rattle.tor_view.specs.Pieces.{IsCut}
 use Rattle.tor_spec.specs.valid.View.{FileView, View}
 use Rattle.tor_tree.specs.Kinds.{has_v1}
 use Rattle.tor_tree.specs.declared.lists.TheConstants.{MAX_TOTAL}

@@ -1,6 +1,6 @@
 -- What a report leaves in a writer, or in another sink.
 use Rattle.std.specs.Prelude.{◌≡◌, ℕ, List, Option}
-use Rattle.tor_meta.specs.FromInput.{IsFront}
+use Rattle.tor_spec.specs.Output.{IsFront}
 use Rattle.tor_report.specs.Sinks.{IsStopped}
 use Rattle.tor_report.specs.declared.fault.ReportFault.{ReportFault}
 use Rattle.tor_report.specs.declared.fault.ReportFault.TheVariants.{Memory, Write}

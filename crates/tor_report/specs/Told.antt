@@ -2,8 +2,8 @@
 use Rattle.std.specs.Prelude.{◌≡◌, ℕ, List}
 use Rattle.tor_bencode.specs.Data.{Data}
 use Rattle.tor_bencode.specs.Spelling.{spelling}
-use Rattle.tor_meta.specs.Hashes.{AreInfoHashes}
-use Rattle.tor_meta.specs.declared.hashes.Hashes.{Hashes}
+use Rattle.tor_spec.specs.Hashes.{AreInfoHashes}
+use Rattle.tor_spec.specs.declared.hashes.Hashes.{Hashes}
 use Rattle.tor_spec.specs.valid.Conditions.{IsTorrentOf}
 use Rattle.tor_spec.specs.valid.Parts.{info_of, kind_of}
 use Rattle.tor_spec.specs.valid.View.{View, view_of}

@@ -6,7 +6,7 @@ ghost use Rattle.tor_report.specs.Sinks.{IsStopped};
 
 use crate::sink::Sink;
 use std::alloc::{AllocError, Global};
-use tor_meta::WriteFault;
+use tor_spec::WriteFault;
 
 /// How many bytes of a text are held back.
 const ROOM: usize = 65_536;

@@ -6,7 +6,7 @@ ghost use Rattle.tor_report.specs.Put.{Puts, Stops};
 
 use crate::buffer::Buffer;
 use crate::sink::Sink;
-use tor_meta::WriteFault;
+use tor_spec::WriteFault;
 
 impl Buffer {
     /// Puts bytes, as a hash, in lower-case hexadecimal digits.

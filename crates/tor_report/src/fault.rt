@@ -3,7 +3,7 @@ ghost use Rattle.std.specs.Prelude.{◌≡◌};
 ghost use Rattle.tor_report.specs.declared.fault.ReportFault.TheVariants.{Memory, Write};
 
 use std::alloc::AllocError;
-use tor_meta::WriteFault;
+use tor_spec::WriteFault;
 
 /// Why a report was not written whole.
 #[derive(Debug, Drop)]

@@ -14,7 +14,7 @@ use crate::buffer::Buffer;
 use crate::sink::Sink;
 use crate::spelling::Spelling;
 use std::str;
-use tor_meta::WriteFault;
+use tor_spec::WriteFault;
 use tor_tree::FilePath;
 
 impl Buffer {

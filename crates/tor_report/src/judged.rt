@@ -10,7 +10,7 @@ use std::alloc::{AllocError, Global};
 use tor_bencode::laws::no_spelling_begins_another;
 use tor_bencode::{BenError, ItemRef, decode_ref};
 use tor_check::{Refusal, Torrent, validate};
-use tor_meta::{Hashes, info_hashes};
+use tor_spec::{Hashes, info_hashes};
 
 /// What a torrent describes, and its info hashes.
 #[derive(Drop)]

@@ -10,7 +10,7 @@ use crate::segment::Segment;
 use crate::sink::Sink;
 use crate::spelling::Spelling;
 use tor_check::{Torrent, ViewFile};
-use tor_meta::{Hashes, WriteFault};
+use tor_spec::{Hashes, WriteFault};
 use tor_tree::{Kind, TreeFile};
 
 impl Buffer {

@@ -5,7 +5,7 @@ ghost use Rattle.tor_report.specs.Put.{Puts, Stops};
 use crate::buffer::Buffer;
 use crate::sink::Sink;
 use itoa::Buffer as Digits;
-use tor_meta::WriteFault;
+use tor_spec::WriteFault;
 
 impl Buffer {
     /// Puts a number in base ten.

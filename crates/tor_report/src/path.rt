@@ -8,7 +8,7 @@ ghost use Rattle.tor_report.specs.Spelled.{spelled};
 use crate::buffer::Buffer;
 use crate::sink::Sink;
 use crate::spelling::Spelling;
-use tor_meta::WriteFault;
+use tor_spec::WriteFault;
 use tor_tree::{FilePath, Name};
 
 impl Buffer {

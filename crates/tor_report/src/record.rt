@@ -16,10 +16,10 @@ use crate::segment::Segment;
 use crate::sink::Sink;
 use tor_bencode::ItemRef;
 use tor_check::{Torrent, ViewFile};
-use tor_meta::{Hashes, WriteFault};
-use tor_recheck::FilePieces;
-use tor_recheck::laws::valid_torrents_are_cut;
+use tor_spec::{Hashes, WriteFault};
 use tor_tree::TreeFile;
+use tor_view::FilePieces;
+use tor_view::laws::valid_torrents_are_cut;
 
 impl Buffer {
     /// Puts the torrent with this tree, whose files have these pieces, as an object.

@@ -17,8 +17,8 @@ use std::alloc::Global;
 use std::io::Write;
 use tor_bencode::ItemRef;
 use tor_check::Torrent;
-use tor_meta::{Hashes, WriteFault};
-use tor_recheck::{FilePieces, files_in_pieces};
+use tor_spec::{Hashes, WriteFault};
+use tor_view::{FilePieces, files_in_pieces};
 
 /// Writes the torrent as a whole, then its files in its order, then its info hashes. The user's text is escaped.
 pub fn write_lines<W: Write>(

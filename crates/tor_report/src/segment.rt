@@ -6,7 +6,7 @@ ghost use Rattle.tor_report.specs.Segments.{segment_text, segments_text};
 use crate::buffer::Buffer;
 use crate::sink::Sink;
 use crate::spelling::Spelling;
-use tor_meta::WriteFault;
+use tor_spec::WriteFault;
 use tor_tree::FilePath;
 
 /// A segment of a text.

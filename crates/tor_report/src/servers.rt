@@ -14,7 +14,7 @@ ghost use Rattle.tor_spec.specs.valid.Parts.{is_list, is_string, items_of_list, 
 use crate::buffer::Buffer;
 use crate::sink::Sink;
 use tor_bencode::ItemRef;
-use tor_meta::WriteFault;
+use tor_spec::WriteFault;
 
 impl Buffer {
     /// Puts the URL of the tracker that the tree of a torrent names; `null` if it names none.

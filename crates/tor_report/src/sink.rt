@@ -5,7 +5,7 @@ ghost use Rattle.tor_report.specs.Writers.{writer_is_sink};
 ghost use Rattle.tor_report.specs.Sinks.{IsSink};
 
 use std::io::Write;
-use tor_meta::{WriteFault, write_out};
+use tor_spec::{WriteFault, write_out};
 
 /// What takes the bytes of a text: a writer, or what has its own reasons to take no more.
 pub trait Sink {

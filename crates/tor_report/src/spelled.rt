@@ -9,7 +9,7 @@ use crate::buffer::Buffer;
 use crate::digits::digit;
 use crate::sink::Sink;
 use crate::spelling::Spelling;
-use tor_meta::WriteFault;
+use tor_spec::WriteFault;
 
 impl Buffer {
     /// Puts a text, spelled so.

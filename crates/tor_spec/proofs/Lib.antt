@@ -31,3 +31,4 @@ pub mod ValidRows
 pub mod MadeRows
 pub mod LetteredRows
 pub mod VerifiedRows
+mod LinkTexts

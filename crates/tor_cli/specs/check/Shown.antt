@@ -4,9 +4,9 @@ use Rattle.std.specs.List.{join_by}
 use Rattle.hex.specs.Hex.{encode_lower}
 use Rattle.tor_bencode.specs.Data.{Data}
 use Rattle.tor_bencode.specs.Find.{value_of}
-use Rattle.tor_meta.specs.Hashes.{magnet_link}
-use Rattle.tor_meta.specs.LinkWords.{link_word}
-use Rattle.tor_meta.specs.declared.hashes.Hashes.{Hashes}
+use Rattle.tor_spec.specs.Hashes.{magnet_link}
+use Rattle.tor_spec.specs.LinkWords.{link_word}
+use Rattle.tor_spec.specs.declared.hashes.Hashes.{Hashes}
 use Rattle.tor_spec.specs.valid.Parts.{info_of, name_of}
 use Rattle.tor_spec.specs.valid.View.{View}
 use Rattle.tor_tree.specs.Properties.{as_string}

@@ -1,7 +1,7 @@
 -- What the program can tell of a torrent.
 use Rattle.std.specs.Prelude.{ℕ, List}
 use Rattle.tor_bencode.specs.Data.{Data}
-use Rattle.tor_meta.specs.declared.hashes.Hashes.{Hashes}
+use Rattle.tor_spec.specs.declared.hashes.Hashes.{Hashes}
 use Rattle.tor_spec.specs.valid.View.{view_of}
 use Rattle.tor_report.specs.Records.{check_line}
 use Rattle.tor_report.specs.Shown.{check_lines, ended_paths, rooted_lines}

@@ -3,7 +3,7 @@
 -- one for each.
 use Rattle.std.specs.Prelude.{◌≡◌, ◌≢◌, ℕ, Bool, List, length}
 use Rattle.tor_check.specs.Valid.{IsTold}
-use Rattle.tor_recheck.specs.Bitfield.{set_count}
+use Rattle.tor_view.specs.Bitfield.{set_count}
 use Rattle.tor_spec.specs.valid.View.{View}
 use Rattle.tor_cli.specs.recheck.Recheck.{IsNotRechecked}
 use Rattle.tor_cli.specs.declared.fault.Fault.{Fault}

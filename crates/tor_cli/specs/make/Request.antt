@@ -17,7 +17,8 @@ use Rattle.tor_tree.specs.Name.{name_fault}
 use Rattle.tor_tree.specs.declared.attr.Attr.{Attr}
 use Rattle.tor_cli.specs.make.CheckAfter.{IsAsMade, IsNotAsMade}
 use Rattle.tor_source.specs.Input.{ReadsAll, ReadsSome, EndsInput}
-use Rattle.tor_meta.specs.FromInput.{IsFront, MakesOf}
+use Rattle.tor_spec.specs.Output.{IsFront}
+use Rattle.tor_meta.specs.FromInput.{MakesOf}
 use Rattle.tor_cli.specs.make.Attrs.{HaveLetters, IsNotLettered}
 use Rattle.tor_cli.specs.Place.{AreFilesAt, IsChosenMissing, IsGivenBy, IsNotFound, refusal_by}
 use Rattle.tor_cli.specs.make.ChosenFiles.{IsChoice, IsNoChoice}

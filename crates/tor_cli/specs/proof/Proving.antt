@@ -10,11 +10,11 @@ use Rattle.tor_check.specs.PieceProofs.{IsPieceProof, piece_refusal}
 use Rattle.tor_merkle.specs.Layer.{IsPieceLength}
 use Rattle.tor_merkle.specs.Proof.{is_proof, proof_count, proof_level}
 use Rattle.tor_merkle.specs.declared.TheConstants.{MAX_LENGTH}
-use Rattle.tor_piece.specs.Piece.{IsPiece}
+use Rattle.tor_view.specs.PieceBytes.{IsPiece}
 use Rattle.tor_spec.specs.valid.Conditions.{IsTorrentOf}
 use Rattle.tor_spec.specs.valid.View.{FileView, view_of}
 use Rattle.tor_cli.specs.Foreign.{IsNoTorrent, OfSome}
-use Rattle.tor_meta.specs.FromInput.{IsFront}
+use Rattle.tor_spec.specs.Output.{IsFront}
 use Rattle.tor_cli.specs.proof.ProofText.{IsProof, IsRootText, proof_text}
 use Rattle.tor_cli.specs.Streams.{IsUntouched, Streams}
 use Rattle.tor_cli.specs.declared.answer.Answer.{Answer}

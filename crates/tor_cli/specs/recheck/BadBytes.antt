@@ -1,7 +1,7 @@
 -- Which bytes of a torrent's files are in pieces that do not hold.
 use Rattle.std.specs.Prelude.{◌≡◌, Bool, List, [], ◌∷◌, map}
-use Rattle.tor_recheck.specs.FileBytes.{AreBadRanges, PiecedFile, pieced_files}
-use Rattle.tor_recheck.specs.declared.files.FileFound.{FileFound}
+use Rattle.tor_view.specs.FileBytes.{AreBadRanges, PiecedFile, pieced_files}
+use Rattle.tor_view.specs.declared.files.FileFound.{FileFound}
 use Rattle.tor_spec.specs.valid.View.{View}
 use Rattle.tor_cli.specs.declared.recheck.bytes_found.BytesFound.{BytesFound}
 

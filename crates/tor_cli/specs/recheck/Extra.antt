@@ -7,7 +7,7 @@ use Rattle.std.specs.declared.alloc.Global.{Global}
 use Rattle.serde_json.specs.Data.{Data, Members, array, member, no_members, object, string}
 use Rattle.serde_json.specs.View.{items_of}
 use Rattle.tor_check.specs.Valid.{IsTold}
-use Rattle.tor_meta.specs.FromInput.{IsFront}
+use Rattle.tor_spec.specs.Output.{IsFront}
 use Rattle.tor_report.specs.Escape.{escaped_bytes, printable}
 use Rattle.tor_report.specs.Records.{record_line}
 use Rattle.tor_source.specs.Extra.{extra_paths}

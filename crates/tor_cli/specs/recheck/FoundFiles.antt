@@ -2,9 +2,9 @@
 use Rattle.std.specs.Prelude.{ℕ, Bool, nat_lt, length, slice_index_or, slice_set, true, false, List, [], ◌∷◌, ◌++◌, flat_map, decimal, codes, Option, None, Some}
 use Rattle.std.specs.Prelude.{if◌then◌else◌}
 use Rattle.std.specs.List.{zip}
-use Rattle.tor_recheck.specs.declared.files.FileFound.{FileFound}
-use Rattle.tor_recheck.specs.declared.files.FileState.{FileState}
-use Rattle.tor_recheck.specs.declared.files.FileState.TheVariants.{Missing, Short, Bad, Whole, Unreadable, Link}
+use Rattle.tor_view.specs.declared.files.FileFound.{FileFound}
+use Rattle.tor_view.specs.declared.files.FileState.{FileState}
+use Rattle.tor_view.specs.declared.files.FileState.TheVariants.{Missing, Short, Bad, Whole, Unreadable, Link}
 use Rattle.tor_spec.specs.valid.View.{FileView}
 use Rattle.tor_tree.specs.declared.tree_file.TreeFile.{TreeFile}
 use Rattle.tor_report.specs.Escape.{escaped}

@@ -6,8 +6,8 @@ use Rattle.std.specs.Io.KnownBytes.{Appends}
 use Rattle.hex.specs.Hex.{encode_lower}
 use Rattle.serde_json.specs.Data.{Members, member, no_members, object, string}
 use Rattle.tor_check.specs.Valid.{IsTold}
-use Rattle.tor_meta.specs.FromInput.{IsFront}
-use Rattle.tor_recheck.specs.Bitfield.{bitfield, set_count}
+use Rattle.tor_spec.specs.Output.{IsFront}
+use Rattle.tor_view.specs.Bitfield.{bitfield, set_count}
 use Rattle.tor_recheck.specs.Lots.{IsOfLot, first_of_lot}
 use Rattle.tor_report.specs.Records.{count_data, record_line}
 use Rattle.tor_spec.specs.valid.View.{View}

@@ -8,12 +8,12 @@ use Rattle.hex.specs.Hex.{encode_lower}
 use Rattle.tor_check.specs.Valid.{IsTold}
 use Rattle.tor_sums.specs.How.{IsHow}
 use Rattle.tor_sums.specs.declared.how.How.TheVariants.{Board}
-use Rattle.tor_recheck.specs.Bitfield.{bitfield, set_count}
+use Rattle.tor_view.specs.Bitfield.{bitfield, set_count}
 use Rattle.tor_recheck.specs.Findings.{AreFoundWithin}
 use Rattle.tor_recheck.specs.Readable.{IsNoReadFault}
 use Rattle.tor_recheck.specs.Recheck.{IsGiven}
-use Rattle.tor_recheck.specs.declared.files.FileFound.{FileFound}
-use Rattle.tor_recheck.specs.declared.files.FileState.TheVariants.{Link, Unreadable}
+use Rattle.tor_view.specs.declared.files.FileFound.{FileFound}
+use Rattle.tor_view.specs.declared.files.FileState.TheVariants.{Link, Unreadable}
 use Rattle.tor_recheck.specs.declared.rechecking_files.Findings.{Findings}
 use Rattle.tor_recheck.specs.declared.errors.RecheckError.{RecheckError}
 use Rattle.tor_recheck.specs.declared.errors.RecheckError.TheVariants as rechecks
@@ -23,8 +23,8 @@ use Rattle.tor_spec.specs.valid.View.{View}
 use Rattle.tor_cli.specs.Foreign.{IsNoTorrent, OfSome}
 use Rattle.tor_cli.specs.recheck.BadBytes.{AreBytesFound}
 use Rattle.tor_cli.specs.recheck.FoundFiles.{told_of_files, with_state}
-use Rattle.tor_meta.specs.FromInput.{IsFront}
-use Rattle.tor_meta.specs.declared.hashes.Hashes.{Hashes}
+use Rattle.tor_spec.specs.Output.{IsFront}
+use Rattle.tor_spec.specs.declared.hashes.Hashes.{Hashes}
 use Rattle.tor_report.specs.Told.{Describes}
 use Rattle.tor_source.specs.Answers.{system_answers}
 use Rattle.tor_cli.specs.proof.Proving.{answer_of}

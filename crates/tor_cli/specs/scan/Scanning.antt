@@ -1,7 +1,7 @@
 -- What `tor scan` does: what it reads and writes, and where a fault stops it.
 use Rattle.std.specs.Prelude.{◌≡◌, ◌≢◌, ◌⊎◌, [], ℕ, List, Option, option_map}
 use Rattle.std.specs.Io.KnownBytes.{Appends}
-use Rattle.tor_meta.specs.FromInput.{IsFront}
+use Rattle.tor_spec.specs.Output.{IsFront}
 use Rattle.tor_cli.specs.Streams.{Streams}
 use Rattle.tor_cli.specs.make.ChosenFiles.{IsChoice, IsNoChoice}
 use Rattle.tor_cli.specs.scan.Inventory.{IsInventory, IsNoInventory}

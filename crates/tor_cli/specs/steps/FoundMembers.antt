@@ -3,10 +3,10 @@
 use Rattle.std.specs.Prelude.{ℕ, Bool, false, true, not, List, [], ◌++◌, length, codes, decimal, Some}
 use Rattle.json.specs.Print.{quoted}
 use Rattle.serde_json.specs.Written.{compact_text}
-use Rattle.tor_meta.specs.declared.hashes.Hashes.{Hashes}
-use Rattle.tor_recheck.specs.Bitfield.{set_count}
-use Rattle.tor_recheck.specs.declared.files.FileFound.{FileFound}
-use Rattle.tor_recheck.specs.declared.files.FileState.{FileState}
+use Rattle.tor_spec.specs.declared.hashes.Hashes.{Hashes}
+use Rattle.tor_view.specs.Bitfield.{set_count}
+use Rattle.tor_view.specs.declared.files.FileFound.{FileFound}
+use Rattle.tor_view.specs.declared.files.FileState.{FileState}
 use Rattle.tor_report.specs.Records.{hash_data, path_data}
 use Rattle.tor_report.specs.Words.{word_of}
 use Rattle.tor_spec.specs.valid.View.{View}

@@ -1,6 +1,6 @@
 -- Where a recheck looks for the files of a torrent. Only private clauses cite this.
 use Rattle.std.specs.Prelude.{◌≡◌, ℕ, Bool, List, [], ◌∷◌, length, map}
-use Rattle.tor_recheck.specs.FileBytes.{has_piece_between, pieced_files}
+use Rattle.tor_view.specs.FileBytes.{has_piece_between, pieced_files}
 use Rattle.tor_source.specs.Places.{place_of}
 use Rattle.tor_spec.specs.valid.View.{FileView, View}
 use Rattle.tor_cli.specs.recheck.LotRecheck.{first_after, first_piece}

@@ -1,8 +1,8 @@
 -- What a recheck tells before it is printed, and what stops the printing. Only private clauses cite this.
 use Rattle.std.specs.Prelude.{◌≡◌, ℕ, Bool, List, Option}
-use Rattle.tor_meta.specs.FromInput.{IsFront}
-use Rattle.tor_meta.specs.declared.hashes.Hashes.{Hashes}
-use Rattle.tor_recheck.specs.declared.files.FileFound.{FileFound}
+use Rattle.tor_spec.specs.Output.{IsFront}
+use Rattle.tor_spec.specs.declared.hashes.Hashes.{Hashes}
+use Rattle.tor_view.specs.declared.files.FileFound.{FileFound}
 use Rattle.tor_report.specs.declared.fault.ReportFault.{ReportFault}
 use Rattle.tor_report.specs.declared.fault.ReportFault.TheVariants.{Memory, Write}
 use Rattle.tor_spec.specs.valid.View.{View}

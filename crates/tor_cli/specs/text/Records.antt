@@ -6,9 +6,9 @@ use Rattle.hex.specs.Hex.{encode_lower}
 use Rattle.serde_json.specs.Data.{Data, Members, null, number, string, array, object, unsigned, member, no_members}
 use Rattle.serde_json.specs.View.{items_of}
 use Rattle.tor_meta.specs.PieceLength.{auto_piece_length}
-use Rattle.tor_meta.specs.declared.hashes.Hashes.{Hashes}
-use Rattle.tor_recheck.specs.Bitfield.{bitfield, set_count}
-use Rattle.tor_recheck.specs.declared.file_pieces.ByteRange.{ByteRange}
+use Rattle.tor_spec.specs.declared.hashes.Hashes.{Hashes}
+use Rattle.tor_view.specs.Bitfield.{bitfield, set_count}
+use Rattle.tor_view.specs.declared.file_pieces.ByteRange.{ByteRange}
 use Rattle.tor_source.specs.declared.refused.Refused.{Refused}
 use Rattle.tor_report.specs.Records.{count_data, hash_data, path_data, record_line, sized_data}
 use Rattle.tor_report.specs.Words.{word_of}

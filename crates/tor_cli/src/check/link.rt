@@ -15,8 +15,8 @@ use std::alloc::{AllocError, Global};
 use tor_bencode::laws::no_spelling_begins_another;
 use tor_bencode::{BenError, ItemRef, decode_ref};
 use tor_check::Torrent;
-use tor_meta::magnet_with;
 use tor_report::Judged;
+use tor_spec::magnet_with;
 
 /// Which torrent's link is printed, and what stands in it.
 #[derive(Clone, Copy)]

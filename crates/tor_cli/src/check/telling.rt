@@ -12,11 +12,11 @@ use crate::fault::Fault;
 use crate::foreign::read_file;
 use std::alloc::Global;
 use std::io::Write;
-use tor_meta::write_out;
 use tor_report::{
     Judged, torrent_tree, torrent_with_hashes, write_lines, write_paths, write_record,
     write_rooted_lines,
 };
+use tor_spec::write_out;
 
 /// What is printed of a torrent.
 #[derive(Clone, Copy)]

@@ -10,8 +10,8 @@ use crate::unwritten::Unwritten;
 use std::fs::{self, File, OpenOptions};
 use std::io::{self, ErrorKind, Write};
 use std::rt::Files;
-use tor_meta::{WriteFault, write_out};
 use tor_source::FolderSource;
+use tor_spec::{WriteFault, write_out};
 
 /// Makes or empties the file `place`, and writes the bytes into it. If it stops, what went into it stays there.
 pub fn write_file<H: Files>(system: &H, place: &str, bytes: &[u8]) -> Result<(), WriteFault>

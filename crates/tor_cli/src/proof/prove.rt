@@ -10,7 +10,7 @@ use crate::proof::words::ProveOptions;
 use std::alloc::Global;
 use std::io::Write;
 use tor_check::{prove_piece, validate};
-use tor_meta::write_out;
+use tor_spec::write_out;
 
 /// Writes the proof of this piece. Nothing is written before the torrent was judged.
 pub fn prove<W: Write>(

@@ -17,9 +17,9 @@ use crate::proof::words::VerifyOptions;
 use std::alloc::Global;
 use std::io::Write;
 use tor_merkle::{Hash, Proof, proof_count, proof_level};
-use tor_meta::write_out;
-use tor_piece::is_piece;
 use tor_source::InputFault;
+use tor_spec::write_out;
+use tor_view::is_piece;
 
 /// So many bytes of PROOF are held at the most. The longest text of a proof has 2,725.
 const MOST_OF_PROOF: usize = 4096;

@@ -1,11 +1,11 @@
 //! Which bytes of a torrent's files are in pieces that do not hold.
 ghost use Rattle.std.specs.Prelude.{IfOk, IfSome, slice_get};
-ghost use Rattle.tor_recheck.specs.FileBytes.{AreBadRanges};
+ghost use Rattle.tor_view.specs.FileBytes.{AreBadRanges};
 ghost use Rattle.tor_cli.specs.recheck.BadBytes.{AreBytesFound};
 
 use std::alloc::{AllocError, Global};
 use tor_check::Torrent;
-use tor_recheck::{Bits, ByteRange, FileFound, FilePieces, files_in_pieces};
+use tor_view::{Bits, ByteRange, FileFound, FilePieces, files_in_pieces};
 
 /// What was found of a file, and which bytes of it are in pieces that do not hold.
 #[derive(Drop)]

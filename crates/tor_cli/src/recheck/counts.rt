@@ -13,8 +13,9 @@ use crate::workers::board_of;
 use std::alloc::Global;
 use std::thread::Threads;
 use tor_check::Torrent;
-use tor_recheck::{Bits, RecheckError, recheck};
+use tor_recheck::{RecheckError, recheck};
 use tor_source::Source;
+use tor_view::Bits;
 
 /// How many pieces are there and right, of how many.
 #[derive(Clone, Copy, PartialEq, Eq)]

@@ -15,9 +15,9 @@ use std::alloc::{AllocError, Global};
 use std::io::Write;
 use std::rt::Files;
 use tor_check::Torrent;
-use tor_meta::write_out;
 use tor_report::torrent_with_hashes;
 use tor_source::{FolderSource, Refusal, Refused, ScanFault, extra_paths};
+use tor_spec::write_out;
 use tor_tree::FilePath;
 
 /// Writes the paths of the files below the place that the torrent does not have; the answer is yes if there is none.

@@ -11,10 +11,10 @@ ghost use Rattle.tor_report.specs.steps.Members.{item_after};
 
 use crate::recheck::bytes_found::BytesFound;
 use crate::recheck::found_text::state_word;
-use tor_meta::WriteFault;
-use tor_recheck::{ByteRange, FileFound};
 use tor_report::{Buffer, Segment, Sink};
+use tor_spec::WriteFault;
 use tor_tree::TreeFile;
+use tor_view::{ByteRange, FileFound};
 
 /// Puts the object of a file.
 pub fn put_found<S: Sink>(

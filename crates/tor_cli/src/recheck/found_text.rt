@@ -7,10 +7,10 @@ ghost use Rattle.tor_report.specs.Segments.{segment_text};
 
 use crate::recheck::listing::FileListing;
 use tor_check::ViewFile;
-use tor_meta::WriteFault;
-use tor_recheck::{FileFound, FileState};
 use tor_report::{Buffer, Segment, Sink, Spelling};
+use tor_spec::WriteFault;
 use tor_tree::TreeFile;
+use tor_view::{FileFound, FileState};
 
 /// Puts what is told of each file, in the torrent's order: the nth that was found is the torrent's nth.
 pub fn put_files<S: Sink>(

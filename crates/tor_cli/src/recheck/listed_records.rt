@@ -14,10 +14,10 @@ use crate::recheck::found_text::is_whole;
 use crate::recheck::listing::FileListing;
 use crate::text::json_line::comma_if;
 use tor_check::ViewFile;
-use tor_meta::WriteFault;
-use tor_recheck::FileState;
 use tor_report::{Buffer, Sink};
+use tor_spec::WriteFault;
 use tor_tree::TreeFile;
+use tor_view::FileState;
 
 /// Puts the files that are listed, as an array; `null` if none is asked for.
 pub fn put_files<S: Sink>(

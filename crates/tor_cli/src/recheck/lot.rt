@@ -26,8 +26,9 @@ use serde_json::{Value, json};
 use std::alloc::{AllocError, Global};
 use std::io::Write;
 use std::thread::Threads;
-use tor_meta::write_out;
-use tor_recheck::{Bits, pieces_of_lot, recheck_lot};
+use tor_recheck::{pieces_of_lot, recheck_lot};
+use tor_spec::write_out;
+use tor_view::Bits;
 
 /// Writes which pieces of the lot are there and right; the answer is yes if all are. Nothing is looked for, nor
 /// written, before the torrent was judged, and of the files those alone are that have bytes in these pieces.

@@ -6,7 +6,7 @@ ghost use Rattle.serde_json.specs.Written.{compact_text};
 ghost use Rattle.std.specs.Prelude.{◌≡◌, IfErr, IfOk, OnOk};
 ghost use Rattle.tor_cli.specs.steps.FoundMembers.{after_files, before_files};
 ghost use Rattle.tor_cli.specs.text.Records.{recheck_line, recheck_members};
-ghost use Rattle.tor_recheck.specs.Bitfield.{bitfield};
+ghost use Rattle.tor_view.specs.Bitfield.{bitfield};
 ghost use Rattle.tor_report.specs.Put.{Puts, Stops};
 
 use crate::recheck::bytes_found::BytesFound;
@@ -17,9 +17,9 @@ use hex::encode;
 use serde_json::Value;
 use std::alloc::{AllocError, Global};
 use tor_check::Torrent;
-use tor_meta::{Hashes, WriteFault};
-use tor_recheck::Bits;
 use tor_report::{Buffer, Judged, Segment, Sink, v1_of, v2_of, word_of};
+use tor_spec::{Hashes, WriteFault};
+use tor_view::Bits;
 
 /// Puts what was found in one line: all that the lines of `recheck` tell. The bits are handed in packed too.
 pub fn put_record<S: Sink>(

@@ -6,7 +6,7 @@ ghost use Rattle.tor_cli.specs.recheck.FoundFiles.{told_of_files};
 ghost use Rattle.tor_cli.specs.recheck.Recheck.{IsText, counts_text, pieces_text, recheck_text};
 ghost use Rattle.tor_cli.specs.steps.Reporting.{IsNotWritten};
 ghost use Rattle.tor_cli.specs.text.Records.{recheck_line};
-ghost use Rattle.tor_recheck.specs.Bitfield.{bitfield};
+ghost use Rattle.tor_view.specs.Bitfield.{bitfield};
 ghost use Rattle.tor_report.specs.Put.{Puts, Stops};
 ghost use Rattle.tor_report.specs.Reports.{IsCutShort};
 
@@ -18,9 +18,9 @@ use crate::recheck::record::put_record;
 use std::alloc::Global;
 use std::io::Write;
 use tor_check::Torrent;
-use tor_meta::WriteFault;
-use tor_recheck::{Bits, FileFound};
 use tor_report::{Buffer, Judged, ReportFault, Segment, Sink};
+use tor_spec::WriteFault;
+use tor_view::{Bits, FileFound};
 
 /// Writes two lines: how many pieces are there and right, of how many; and the bitfield. Below them the files that are
 /// listed. Or the paths of the bad ones alone; or one line of JSON.

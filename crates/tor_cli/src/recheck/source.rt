@@ -1,6 +1,6 @@
 //! Where the system has the files of a torrent.
 ghost use Rattle.std.specs.Prelude.{◌≡◌, ◌⊎◌, IfErr, IfOk, map};
-ghost use Rattle.tor_recheck.specs.FileBytes.{has_piece_between};
+ghost use Rattle.tor_view.specs.FileBytes.{has_piece_between};
 ghost use Rattle.tor_report.specs.Told.{Describes};
 ghost use Rattle.tor_cli.specs.recheck.Recheck.{IsNoPlace, IsNotPlaced};
 ghost use Rattle.tor_cli.specs.declared.recheck.whereabouts.Whereabouts.TheVariants.{Nowhere};
@@ -14,10 +14,11 @@ use crate::recheck::whereabouts::{Whereabouts, standing_of_answer, whereabouts_o
 use std::alloc::{AllocError, Global};
 use std::rt::Files;
 use tor_check::{Torrent, ViewFile};
-use tor_recheck::{FilePieces, files_in_pieces, pieces_of_lot};
+use tor_recheck::pieces_of_lot;
 use tor_report::{Judged, torrent_with_hashes};
 use tor_source::{FolderSource, ScanFault};
 use tor_tree::FilePath;
+use tor_view::{FilePieces, files_in_pieces};
 
 /// Which links are followed below the place where files are looked for; and, if none is, which files are looked for.
 #[derive(Clone, Copy)]

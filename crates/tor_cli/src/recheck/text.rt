@@ -6,11 +6,11 @@ ghost use Rattle.tor_sums.specs.Contents.{contents_in};
 ghost use Rattle.tor_sums.specs.How.{IsHow};
 ghost use Rattle.tor_engine.specs.PieceFault.{lengths_told};
 ghost use Rattle.tor_sums.specs.declared.how.How.TheVariants.{Board};
-ghost use Rattle.tor_recheck.specs.Files.{files_found, held_pieces};
+ghost use Rattle.tor_view.specs.Files.{files_found, held_pieces};
 ghost use Rattle.tor_recheck.specs.Readable.{IsNoReadFault, faults_seen, readable_held, readable_pieces};
 ghost use Rattle.tor_engine.specs.Readable.{seen_lengths};
 ghost use Rattle.tor_cli.specs.recheck.FoundFiles.{state_at, with_state};
-ghost use Rattle.tor_recheck.specs.declared.files.FileState.TheVariants.{Link, Unreadable};
+ghost use Rattle.tor_view.specs.declared.files.FileState.TheVariants.{Link, Unreadable};
 ghost use Rattle.tor_recheck.specs.Recheck.{IsFault, IsGiven, first_fault};
 ghost use Rattle.tor_recheck.specs.declared.errors.RecheckError.TheVariants.{Resources, Workers};
 ghost use Rattle.tor_source.specs.Source.{SourceFacts};
@@ -25,12 +25,10 @@ use hex::encode;
 use std::alloc::{AllocError, Global};
 use std::thread::Threads;
 use tor_engine::ReadFault;
-use tor_recheck::{
-    Bits, FileFound, FileState, Findings, ReadableFindings, RecheckError, recheck_files,
-    recheck_readable,
-};
+use tor_recheck::{Findings, ReadableFindings, RecheckError, recheck_files, recheck_readable};
 use tor_report::Judged;
 use tor_source::Source;
+use tor_view::{Bits, FileFound, FileState};
 
 /// What a recheck tells.
 #[derive(Drop)]

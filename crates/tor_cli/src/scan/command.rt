@@ -16,8 +16,8 @@ use crate::scan::record::put_record;
 use crate::scan::words::{ScanForm, ScanOptions};
 use std::alloc::Global;
 use std::io::{Read, Write};
-use tor_meta::WriteFault;
 use tor_report::{Buffer, ReportFault, Sink};
+use tor_spec::WriteFault;
 
 /// Writes which files at a place can be taken, and what is refused; the answer is yes if nothing is. No file is read.
 pub fn scan<R: Read, W: Write>(

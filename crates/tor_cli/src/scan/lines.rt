@@ -10,9 +10,10 @@ ghost use Rattle.tor_report.specs.Spelled.{spelled};
 use crate::scan::inventory::Inventory;
 use crate::scan::refusals::{refusal_code, refusal_word};
 use std::str;
-use tor_meta::{WriteFault, auto_piece_length};
+use tor_meta::auto_piece_length;
 use tor_report::{Buffer, Segment, Sink, Spelling};
 use tor_source::Refused;
+use tor_spec::WriteFault;
 use tor_tree::FilePath;
 
 /// Puts the files in the torrent's order, the totals, and what is refused. The user's text is escaped.

@@ -13,9 +13,10 @@ use crate::scan::inventory::Inventory;
 use crate::scan::lines::total_of;
 use crate::scan::refusals::{refusal_code, refusal_word};
 use crate::text::json_line::comma_if;
-use tor_meta::{WriteFault, auto_piece_length};
+use tor_meta::auto_piece_length;
 use tor_report::{Buffer, Segment, Sink};
 use tor_source::Refused;
+use tor_spec::WriteFault;
 use tor_tree::FilePath;
 
 /// Puts the inventory in one line: all that the lines of `scan` tell.

@@ -4,7 +4,7 @@ use Rattle.tor_engine.specs.PieceHashes.{hashes_of_pieces, piece_hashes}
 use Rattle.tor_engine.specs.declared.piece_hash.PieceHash.{PieceHash}
 use Rattle.tor_plan.specs.PlanFacts.{PlanFacts, plan_of_entries}
 use Rattle.tor_recheck.specs.Lots.{in_lot}
-use Rattle.tor_recheck.specs.Pieces.{entries_to_cut, pieces_of}
+use Rattle.tor_view.specs.Pieces.{entries_to_cut, pieces_of}
 use Rattle.tor_recheck.specs.declared.rechecking.TheConstants.{SPAN}
 use Rattle.tor_spec.specs.valid.View.{View}
 

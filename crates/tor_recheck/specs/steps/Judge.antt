@@ -5,7 +5,7 @@ use Rattle.std.specs.List.{range_with_len}
 use Rattle.std.specs.Str.{bytes_eq}
 use Rattle.tor_engine.specs.declared.piece_hash.PieceHash.{PieceHash}
 use Rattle.tor_merkle.specs.Block.{run_at}
-use Rattle.tor_recheck.specs.Pieces.{told_hashes}
+use Rattle.tor_view.specs.Pieces.{told_hashes}
 use Rattle.tor_spec.specs.valid.View.{View}
 use Rattle.tor_tree.specs.Kinds.{has_v2}
 

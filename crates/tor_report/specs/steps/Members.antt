@@ -6,7 +6,7 @@ use Rattle.serde_json.specs.Written.{compact_text}
 use Rattle.tor_bencode.specs.Data.{Data as Tree}
 use Rattle.tor_bencode.specs.RefView.{view}
 use Rattle.tor_bencode.specs.declared.item_ref.ItemRef.{ItemRef}
-use Rattle.tor_meta.specs.declared.hashes.Hashes.{Hashes}
+use Rattle.tor_spec.specs.declared.hashes.Hashes.{Hashes}
 use Rattle.tor_spec.specs.valid.View.{View}
 use Rattle.tor_report.specs.Records.{hash_data, total_length}
 use Rattle.tor_report.specs.Servers.{announce_data, announce_list_data, text_data, texts_data, url_list_data}

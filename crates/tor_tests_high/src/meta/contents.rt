@@ -4,7 +4,8 @@
 use crate::meta::given::{Row, Shape, files, is, name, zeros};
 use std::alloc::{AllocError, Global};
 use std::io::{self, Error, ErrorKind, Write};
-use tor_meta::{Hashes, Head, magnet, make_contents, write_out};
+use tor_meta::{Head, make_contents};
+use tor_spec::{Hashes, magnet, write_out};
 use tor_tree::Kind;
 
 /// The torrent of the content `abc` under the name `a`, piece length 16,384. The hash is the SHA-256 of `abc`.

@@ -3,7 +3,7 @@
 use crate::check::telling::is;
 use std::alloc::{AllocError, Global};
 use std::fmt::Write;
-use tor_recheck::Bits;
+use tor_view::Bits;
 
 fn push_hex(text: &mut String, bytes: &[u8]) -> Result<(), AllocError> {
     for byte in bytes {

@@ -4,7 +4,7 @@ use crate::recheck::bits::bits_of;
 use crate::recheck::rechecks::{PADDED, torrent_of};
 use std::alloc::{AllocError, Global};
 use tor_check::Torrent;
-use tor_recheck::{Bits, FilePieces, files_in_pieces};
+use tor_view::{Bits, FilePieces, files_in_pieces};
 
 /// What is told of a file: its first piece, how many it has, its length, and the bytes of it that are in pieces whose
 /// bits are not set, one range at most.

@@ -8,8 +8,9 @@ use std::alloc::{AllocError, Global};
 use std::thread::Threads;
 use tor_check::Torrent;
 use tor_engine::{How, ReadFault};
-use tor_recheck::{FileFound, ReadableFindings, recheck_readable};
+use tor_recheck::{ReadableFindings, recheck_readable};
 use tor_source::FailSource;
+use tor_view::FileFound;
 
 /// The files that are there, their faults, and what is told: the bits and the bitfield, the state of each file, and
 /// each fault.

@@ -10,8 +10,9 @@ use std::sync::atomic::Ordering::SeqCst;
 use std::thread::Threads;
 use tor_check::{Torrent, validate};
 use tor_engine::How;
-use tor_recheck::{Bits, recheck};
+use tor_recheck::recheck;
 use tor_source::{FailSource, Source};
+use tor_view::Bits;
 
 /// Each way to share the units.
 const EACH_HOW: &[How] = &[

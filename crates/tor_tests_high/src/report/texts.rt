@@ -1,8 +1,8 @@
 //! Texts that are longer than the buffer, of 65,536 bytes.
 use crate::report::narrow::{Narrow, narrow_writer};
 use std::alloc::{AllocError, Global};
-use tor_meta::WriteFault;
 use tor_report::{Buffer, Segment, Spelling};
+use tor_spec::WriteFault;
 
 /// Puts ten digits so often.
 fn put_digits(buffer: &mut Buffer, out: &mut Narrow, count: usize) -> Result<(), WriteFault> {

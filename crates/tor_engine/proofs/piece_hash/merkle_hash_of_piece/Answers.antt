@@ -1,6 +1,6 @@
 -- the tree over the one part of a piece
 use Rattle.std.proofs.Common.{Some, get_or, ap, ◌∙◌}
-use Rattle.tor_engine.specs.PieceHashes.{merkle_hash}
+use Rattle.tor_merkle.specs.PieceHash.{merkle_hash}
 use Rattle.tor_engine.proofs.PieceNodes.{hash_of_piece}
 use Rattle.tor_engine.proofs.piece_hash.merkle_hash_of_piece.Goals as goal
 

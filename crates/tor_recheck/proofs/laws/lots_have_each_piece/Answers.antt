@@ -1,4 +1,4 @@
-use Rattle.tor_recheck.proofs.ProvedLaws.{bits_dealt, bytes_dealt, counts_dealt}
+use Rattle.tor_recheck.proofs.DealtLots.{bits_dealt, bytes_dealt, counts_dealt}
 use Rattle.tor_recheck.proofs.laws.lots_have_each_piece.Goals as goal
 
 pub returns : goal.returns

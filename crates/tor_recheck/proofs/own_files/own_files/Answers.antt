@@ -2,7 +2,7 @@
 use Rattle.tor_recheck.proofs.Names.{◌∙◌, ◌++◌, ◌∷◌, [], List, ap, ap₂, map, sym, take, take_all, take_more}
 use Rattle.std.proofs.lemmas.List.{map-append}
 use Rattle.tor_recheck.proofs.OwnSpans.{own_by_spans}
-use Rattle.tor_recheck.specs.FileBytes.{PiecedFile, has_piece_between}
+use Rattle.tor_view.specs.FileBytes.{PiecedFile, has_piece_between}
 use Rattle.tor_recheck.proofs.own_files.own_files.Goals as goal
 
 pub files-init : goal.files-init

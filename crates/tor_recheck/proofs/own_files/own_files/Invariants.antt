@@ -1,6 +1,6 @@
 -- the files so far
 use Rattle.tor_recheck.proofs.Names.{◌≡◌, map, take}
-use Rattle.tor_recheck.specs.FileBytes.{has_piece_between}
+use Rattle.tor_view.specs.FileBytes.{has_piece_between}
 use Rattle.tor_recheck.proofs.own_files.own_files.Given as goal
 
 abbrev pub invariant-files : goal.invariant-files

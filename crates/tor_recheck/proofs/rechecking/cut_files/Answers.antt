@@ -3,8 +3,8 @@ use Rattle.tor_recheck.proofs.Names.{◌≡◌, ◌≢◌, ◌≤◌, ◌∙◌,
 use Rattle.tor_recheck.proofs.Names.{MAX_LENGTH, MAX_TOTAL, IsPlanPieceLength, Kind, Hybrid, PlanFacts, entries_to_cut}
 use Rattle.tor_recheck.proofs.Names.{plan_of_entries}
 use Rattle.tor_recheck.proofs.FilesToCut.{no_hybrid, total_to_cut, unpadded_to_cut}
-use Rattle.tor_recheck.proofs.MerklePieces.{length_of}
-use Rattle.tor_recheck.proofs.PieceSides.{same_lengths}
+use Rattle.tor_view.proofs.MerklePieces.{length_of}
+use Rattle.tor_view.proofs.PieceSides.{same_lengths}
 use Rattle.tor_recheck.proofs.rechecking.cut_files.Goals as goal
 
 pub of_lengths-requires : goal.of_lengths-requires

@@ -3,7 +3,7 @@ use Rattle.tor_recheck.proofs.Names.{arith, ones, refl}
 use Rattle.tor_recheck.proofs.Names.{[], ℕ, length, ap, subst, sym, ◌∙◌, contents_in, IsGivenPieces, first_piece_fault}
 use Rattle.tor_recheck.proofs.Names.{piece_hashes, pieces_of_plan, PlanFacts, plan_of_entries, entries_to_cut, IsFault}
 use Rattle.tor_recheck.proofs.Names.{◌≡◌, IsCut, IsGiven, View, first_fault, is_within, lengths_told, map}
-use Rattle.tor_recheck.proofs.ProvedLaws.{pieces_are_counted}
+use Rattle.tor_view.proofs.ProvedLaws.{pieces_are_counted}
 use Rattle.tor_recheck.proofs.RecheckFaults.{given_of, no_fault, same_fault}
 use Rattle.tor_recheck.proofs.Rechecked.{count_is, pieces_are}
 use Rattle.tor_sums.specs.Fault as engine

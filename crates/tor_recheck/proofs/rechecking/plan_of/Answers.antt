@@ -1,6 +1,6 @@
 -- what is cut are the torrent's entries, or its files if it has no v1 side
 use Rattle.tor_recheck.proofs.Names.{◌∙◌, sym, ap, cond-true, has_v1}
-use Rattle.tor_recheck.proofs.ValidAreCut.{cut_of}
+use Rattle.tor_view.proofs.ValidAreCut.{cut_of}
 use Rattle.tor_recheck.proofs.rechecking.plan_of.Goals as goal
 
 pub cut_entries-requires : goal.cut_entries-requires

@@ -6,7 +6,7 @@ use Rattle.tor_recheck.proofs.Names.{AreWithin, FileFound, HasTold}
 use Rattle.tor_recheck.proofs.HeldPieces.{judged_is_held}
 use Rattle.tor_recheck.proofs.FoundLengths.{lengths_kept}
 use Rattle.tor_recheck.proofs.Rechecked.{count_of_judged, judged_is_verified}
-use Rattle.tor_recheck.proofs.SpanSteps.{spans_are_counted}
+use Rattle.tor_view.proofs.SpanSteps.{spans_are_counted}
 use Rattle.tor_recheck.proofs.Within.{held_within, judged_within, right_are_held, some_within}
 use Rattle.tor_recheck.proofs.rechecking_files.recheck_files.Goals as goal
 

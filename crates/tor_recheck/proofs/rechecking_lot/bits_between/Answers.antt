@@ -1,7 +1,7 @@
 -- one bit more
 use Rattle.tor_recheck.proofs.Names.{◌≡◌, ◌∙◌, ◌∷◌, ◌++◌, [], ◌+◌, ◌-◌, ◌<◌, ap, ap₂, arith, drop, false, get_or, length, sym}
 use Rattle.tor_recheck.proofs.Names.{take, take_more, get_or-drop, length-drop}
-use Rattle.tor_recheck.proofs.FileBits.{bit_tested}
+use Rattle.tor_view.proofs.FileBits.{bit_tested}
 use Rattle.tor_recheck.proofs.rechecking_lot.bits_between.Goals as goal
 
 pub pieces-preserved : goal.pieces-preserved

@@ -9,7 +9,7 @@ use Rattle.tor_engine.specs.Readable.{read_faults, readable_hashes, seen_content
 use Rattle.tor_recheck.specs.Readable.{IsGivenFault, IsNoReadFault, contents_seen}
 use Rattle.tor_recheck.specs.steps.Hashes.{cut_plan}
 use Rattle.tor_sums.specs.steps.Each.{SumUpEach}
-use Rattle.tor_recheck.proofs.ProvedLaws.{pieces_are_counted}
+use Rattle.tor_view.proofs.ProvedLaws.{pieces_are_counted}
 use Rattle.tor_recheck.proofs.ReadableBits.{all_more}
 use Rattle.tor_recheck.proofs.RecheckFaults.{given_of, no_read_of}
 use Rattle.tor_recheck.proofs.Rechecked.{count_is, pieces_are}

@@ -7,7 +7,7 @@ use Rattle.tor_engine.specs.Readable.{IsSeenLength}
 use Rattle.tor_recheck.proofs.FoundLengths.{lengths_kept}
 use Rattle.tor_recheck.proofs.ReadableBits.{held_readable, right_readable}
 use Rattle.tor_recheck.proofs.Rechecked.{count_of_judged}
-use Rattle.tor_recheck.proofs.SpanSteps.{spans_are_counted}
+use Rattle.tor_view.proofs.SpanSteps.{spans_are_counted}
 use Rattle.tor_recheck.proofs.Within.{each_within, held_within, judged_within, right_are_held}
 use Rattle.tor_recheck.proofs.rechecking_readable.recheck_readable.Goals as goal
 

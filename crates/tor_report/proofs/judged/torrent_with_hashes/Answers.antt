@@ -1,7 +1,7 @@
 -- A torrent has `info`, of which the hashes are.
 use Rattle.std.proofs.Common.{◌∙◌, ap, subst}
 use Rattle.tor_bencode.specs.Spelling.{spelling}
-use Rattle.tor_meta.specs.Hashes.{AreInfoHashes}
+use Rattle.tor_spec.specs.Hashes.{AreInfoHashes}
 use Rattle.tor_spec.specs.valid.Parts.{info_of}
 use Rattle.tor_spec.specs.valid.View.{View}
 use Rattle.tor_report.proofs.Judging.{has_info, info_found}

@@ -1,6 +1,6 @@
 -- A torrent that was judged can be cut, so that all its bytes are few.
 use Rattle.std.proofs.Common.{◌≤◌, subst, sym, List}
-use Rattle.tor_recheck.specs.Pieces.{IsCut}
+use Rattle.tor_view.specs.Pieces.{IsCut}
 use Rattle.tor_spec.specs.valid.View.{FileView}
 use Rattle.tor_tree.specs.declared.lists.TheConstants.{MAX_TOTAL}
 use Rattle.tor_report.specs.Records.{total_length}

@@ -4,7 +4,7 @@ use Rattle.std.specs.Prelude.{IfErr}
 use Rattle.serde_json.specs.Data.{object}
 use Rattle.serde_json.specs.Written.{compact_text}
 use Rattle.tor_bencode.specs.RefView.{view}
-use Rattle.tor_recheck.specs.FileBytes.{PiecedFile}
+use Rattle.tor_view.specs.FileBytes.{PiecedFile}
 use Rattle.tor_report.specs.Records.{check_members, members_of}
 use Rattle.tor_report.specs.Reports.{IsReportStopped}
 use Rattle.tor_report.proofs.Putting.{put_nothing}

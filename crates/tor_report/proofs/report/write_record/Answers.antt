@@ -4,7 +4,7 @@ use Rattle.std.specs.Io.KnownBytes.{Appends}
 use Rattle.std.specs.Prelude.{IfErr}
 use Rattle.serde_json.specs.Data.{object}
 use Rattle.tor_bencode.specs.RefView.{view}
-use Rattle.tor_recheck.specs.FileBytes.{PiecedFile}
+use Rattle.tor_view.specs.FileBytes.{PiecedFile}
 use Rattle.tor_report.specs.Records.{check_line, members_of, record_line}
 use Rattle.tor_report.specs.Reports.{IsCutShort}
 use Rattle.tor_report.proofs.Putting.{put_nothing}

@@ -1,8 +1,8 @@
 -- The link, with what is asked for, and a line feed.
 use Rattle.std.proofs.Common.{◌≡◌, ◌++◌, ◌∙◌, List, ℕ, ap, ap₂, append_assoc, codes, Some, None}
 use Rattle.std.specs.Prelude.{if◌then◌else◌}
-use Rattle.tor_meta.specs.Hashes.{magnet_link}
-use Rattle.tor_meta.specs.LinkWords.{link_word}
+use Rattle.tor_spec.specs.Hashes.{magnet_link}
+use Rattle.tor_spec.specs.LinkWords.{link_word}
 use Rattle.tor_spec.specs.valid.View.{View}
 use Rattle.tor_cli.proofs.check.link.link_line.Goals as goal
 

@@ -1,8 +1,8 @@
 -- One file after the other.
 use Rattle.std.proofs.Common.{◌++◌, ◌∷◌, ◌∙◌, [], List, ap, arith, get_or, map, refl, subst, sym}
 use Rattle.std.proofs.lemmas.List.{map_push, take_all, take_more}
-use Rattle.tor_recheck.specs.FileBytes.{PiecedFile}
-use Rattle.tor_recheck.specs.declared.files.FileFound.{FileFound}
+use Rattle.tor_view.specs.FileBytes.{PiecedFile}
+use Rattle.tor_view.specs.declared.files.FileFound.{FileFound}
 use Rattle.tor_cli.specs.declared.recheck.bytes_found.BytesFound.{BytesFound}
 use Rattle.tor_cli.specs.recheck.FoundFiles.{nothing_told}
 use Rattle.tor_cli.specs.recheck.BadBytes.{HaveBadRanges}

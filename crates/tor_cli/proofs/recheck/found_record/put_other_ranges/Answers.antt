@@ -1,7 +1,7 @@
 -- The ranges so far, and one more.
 use Rattle.std.proofs.Common.{get_or, subst, ℕ, List}
 use Rattle.std.proofs.lemmas.List.{get_or_default}
-use Rattle.tor_recheck.specs.declared.file_pieces.ByteRange.{ByteRange}
+use Rattle.tor_view.specs.declared.file_pieces.ByteRange.{ByteRange}
 use Rattle.tor_report.specs.Put.{Puts}
 use Rattle.tor_report.specs.steps.Members.{item_after}
 use Rattle.tor_report.proofs.ProvedLaws.{fault_after, flat_more, flat_rest, puts_both}

@@ -1,6 +1,6 @@
 -- The files so far.
 use Rattle.std.proofs.Common.{◌≡◌, map, take}
-use Rattle.tor_recheck.specs.FileBytes.{has_piece_between}
+use Rattle.tor_view.specs.FileBytes.{has_piece_between}
 use Rattle.tor_cli.proofs.recheck.source.wanted_between.Given as goal
 
 abbrev pub invariant-files : goal.invariant-files

@@ -2,8 +2,8 @@
 use Rattle.std.proofs.Common.{[], ◌≡◌, ◌∙◌, Bool, List, ap, refl, subst, sym, arith}
 use Rattle.std.proofs.lemmas.Grind.{common_steps}
 use Rattle.std.specs.Prelude.{OnOk}
-use Rattle.tor_recheck.specs.declared.files.FileFound.{FileFound}
-use Rattle.tor_recheck.specs.declared.files.FileState.TheVariants.{Link}
+use Rattle.tor_view.specs.declared.files.FileFound.{FileFound}
+use Rattle.tor_view.specs.declared.files.FileState.TheVariants.{Link}
 use Rattle.tor_cli.specs.recheck.FoundFiles.{with_state}
 use Rattle.tor_cli.specs.steps.Reporting.{IsReportOf}
 use Rattle.tor_sums.specs.How.{IsHow}

@@ -1,8 +1,8 @@
 -- Some files are unreadable, and some are links.
 use Rattle.std.proofs.Common.{ap, map, subst, sym, true≢false, ◌∙◌, List, arith}
 use Rattle.std.proofs.lemmas.Grind.{common_steps}
-use Rattle.tor_recheck.specs.declared.files.FileFound.{FileFound}
-use Rattle.tor_recheck.specs.declared.files.FileState.TheVariants.{Link, Unreadable}
+use Rattle.tor_view.specs.declared.files.FileFound.{FileFound}
+use Rattle.tor_view.specs.declared.files.FileState.TheVariants.{Link, Unreadable}
 use Rattle.tor_sums.specs.How.{IsHow}
 use Rattle.tor_cli.specs.recheck.FoundFiles.{with_state}
 use Rattle.tor_cli.specs.steps.Reporting.{IsReportOf}

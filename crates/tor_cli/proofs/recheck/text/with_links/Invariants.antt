@@ -1,6 +1,6 @@
 -- What the links that are left make of the files.
 use Rattle.std.proofs.Common.{◌≡◌, drop}
-use Rattle.tor_recheck.specs.declared.files.FileState.TheVariants.{Link}
+use Rattle.tor_view.specs.declared.files.FileState.TheVariants.{Link}
 use Rattle.tor_cli.specs.recheck.FoundFiles.{with_state}
 use Rattle.tor_cli.proofs.recheck.text.with_links.Given as goal
 

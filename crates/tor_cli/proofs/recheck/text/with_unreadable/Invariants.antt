@@ -1,6 +1,6 @@
 -- What the faults that are left make of the files.
 use Rattle.std.proofs.Common.{◌≡◌, drop, map}
-use Rattle.tor_recheck.specs.declared.files.FileState.TheVariants.{Unreadable}
+use Rattle.tor_view.specs.declared.files.FileState.TheVariants.{Unreadable}
 use Rattle.tor_cli.specs.recheck.FoundFiles.{with_state}
 use Rattle.tor_cli.proofs.recheck.text.with_unreadable.Given as goal
 

@@ -1,6 +1,6 @@
 -- a piece has bytes
 use Rattle.tor_recheck.proofs.Names.{◌<◌, ap₂, flat_map, hashes_of_file, subst, sym, View}
-use Rattle.tor_recheck.proofs.NoCondition.{some_bytes}
+use Rattle.tor_view.proofs.NoCondition.{some_bytes}
 use Rattle.tor_recheck.proofs.merkle_hashes.ToldHashes.of.Goals as goal
 
 pub invariant_of-result : goal.invariant_of-result

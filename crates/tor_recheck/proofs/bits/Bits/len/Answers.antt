@@ -1,6 +1,0 @@
-use Rattle.tor_recheck.proofs.Names.{sym}
-use Rattle.tor_recheck.proofs.ReadBack.{length-packed_bits}
-use Rattle.tor_recheck.proofs.bits.Bits.len.Goals as goal
-
-pub returns : goal.returns
-returns c = rw (← c.self.view_is) (sym (length-packed_bits c.self.inside.bytes.items c.self.inside.count))

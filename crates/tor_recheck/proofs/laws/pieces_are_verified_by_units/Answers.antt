@@ -1,5 +1,0 @@
-use Rattle.tor_recheck.proofs.ProvedLaws.{pieces_are_verified_by_units}
-use Rattle.tor_recheck.proofs.laws.pieces_are_verified_by_units.Goals as goal
-
-pub returns : goal.returns
-returns c = pieces_are_verified_by_units

@@ -1,5 +1,0 @@
-use Rattle.tor_recheck.proofs.BytesOfPieces.{pieces_have_bytes}
-use Rattle.tor_recheck.proofs.laws.pieces_have_their_bytes.Goals as goal
-
-pub returns : goal.returns
-returns c = pieces_have_bytes

@@ -1,7 +1,0 @@
-use Rattle.tor_recheck.proofs.PartsOfFiles.{spans_have_bytes}
-use Rattle.tor_recheck.proofs.SpanBounds.{spans_are_within}
-use Rattle.tor_recheck.proofs.SpanSteps.{spans_are_counted}
-use Rattle.tor_recheck.proofs.laws.spans_are_of_pieces.Goals as goal
-
-pub returns : goal.returns
-returns c = record { counted = spans_are_counted; within = spans_are_within; bytes = spans_have_bytes }

@@ -1,0 +1,6 @@
+pub mod Bitfield
+pub mod FileBytes
+pub mod Files
+pub mod PieceBytes
+pub mod Pieces
+pub mod steps

@@ -1,0 +1,3 @@
+pub mod FileBytes
+pub mod Packed
+pub mod Spans
