@@ -18,12 +18,12 @@ same_tree shape t u is is' e = some-injective t u (sym is ∙ (ap (get_elem? sha
 pub apart : {words slots : ℕ} {shape : Shape} → IsShape words slots shape → (t u : Tree) → IsTreeOf shape t
     → IsTreeOf shape u → t.number ≢ u.number → Apart t u
 apart shaped t u is is' ne = record {
-  slots = λ s h k. grind (arith, shaped.apart t u is is', shaped.apart u t is' is);
-  words = λ m n h k e. grind (arith, shaped.apart t u is is', shaped.apart u t is' is);
-  units = λ m n h k e. grind (arith, shaped.apart t u is is', shaped.apart u t is' is);
+  slots = λ s h k. grind (arith, shaped.laid t u is is', shaped.laid u t is' is);
+  words = λ m n h k e. grind (arith, shaped.laid t u is is', shaped.laid u t is' is);
+  units = λ m n h k e. grind (arith, shaped.apart t u is is' ne, shaped.apart u t is' is (λ same. ne (sym same)));
 }
 
--- the last one that begins at or before a unit has it, if any has
+-- a tree by its place, which is its number
 module _ {words slots : ℕ} {shape : Shape} (shaped : IsShape words slots shape) where
   pub at_number : (k : ℕ) (t : Tree) → get_elem? shape.trees.items k ≡ some t → IsTreeOf shape t
   at_number k t e = subst (λ (n : ℕ). get_elem? shape.trees.items n ≡ some t) (sym (shaped.numbered k t e)) e
@@ -35,16 +35,6 @@ module _ {words slots : ℕ} {shape : Shape} (shaped : IsShape words slots shape
   pub same_at : (j k : ℕ) (t u : Tree) → get_elem? shape.trees.items j ≡ some t → get_elem? shape.trees.items k ≡ some u
       → j ≡ k → t ≡ u
   same_at j k t u e f same = some-injective t u (sym e ∙ (ap (get_elem? shape.trees.items) same ∙ f))
-
-  pub not_before : (j k : ℕ) (t u : Tree) → get_elem? shape.trees.items j ≡ some t
-      → get_elem? shape.trees.items k ≡ some u → j ≤ k → (t.first ≤ u.first) × (t.offset ≤ u.offset)
-  not_before j k t u e f le = grind arith
-
-  pub none_has : (low high : ℕ) (unit : ℕ) → high ≤ low
-      → ((k : ℕ) (t : Tree) → get_elem? shape.trees.items k ≡ some t → high ≤ k → unit < t.first)
-      → (u : Tree) → 0 < low → get_elem? shape.trees.items (low - 1) ≡ some u → u.first + u.count ≤ unit
-      → (t : Tree) → IsTreeOf shape t → (j : ℕ) → j < t.count → unit ≢ t.first + j
-  none_has low high unit ends later u some_low f past t is j h e = grind arith
 
 -- the levels above a unit of a tree
 pub levels_of : {words slots : ℕ} (b : Board) → IsShape words slots b.shape → (t : Tree) → IsTreeOf b.shape t → (u : ℕ)

@@ -12,7 +12,10 @@ pub mod Arrivals
 pub mod Meets
 pub mod Finding
 pub mod Closing
+pub mod Apart
 pub mod Opening
+pub mod Starts
+pub mod ProvedLaws
 pub mod Machines
 pub mod Running
 pub mod Shown

@@ -24,7 +24,7 @@ met_right side a b right = grind arith
 -- the tree is low, and its words and slots are small
 pub tree_facts : {words slots : ℕ} {shape : Shape} → IsShape words slots shape → (t : Tree) → IsTreeOf shape t
     → IsLow t × (t.offset ≤ 2 ^ 62)
-tree_facts shaped t is = let f = shaped.fits t is in ((f.tall, f.low), omega (arith, f.below, f.behind, shaped.small))
+tree_facts shaped t is = let f = shaped.fits t is in ((f.tall, f.low), omega (arith, f.among, shaped.small))
 
 module _ {units words slots : ℕ} {t : Tree} (fits : Fits units words slots t) where
   some_unit : 0 < t.count

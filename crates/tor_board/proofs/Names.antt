@@ -17,7 +17,8 @@ pub use Rattle.tor_board.specs.{Plays.{claimed, gave as gave_told, looked, seale
 pub use Rattle.tor_board.specs.{Rising.{climb_from, climbed, met, other_slot, raised, risen}, Rule.{ClimbsIn, IsKnown}}
 pub use Rattle.tor_board.specs.Rule.{IsSide, Keeps, KeepsClaims, KeepsTree, TopsAre, climbing, climbs_to, has_out}
 pub use Rattle.tor_board.specs.{Rule.{nobody, out, tops_of}, Running.{least_of, runs_of}, Seats.{IsLeastOf, run_of}}
-pub use Rattle.tor_board.specs.{Shapes.{Fits, IsShape, IsTreeOf}, Stepping.{IsChange, IsEvent, Shows}, Trees.IsRoot}
+pub use Rattle.tor_board.specs.Shapes.{AreApart, AreStarts, Fits, IsRun, IsShape, IsTreeOf, start_of}
+pub use Rattle.tor_board.specs.{Stepping.{IsChange, IsEvent, Shows}, Trees.IsRoot}
 pub use Rattle.tor_board.specs.Trees.{WasGiven, has_unit, joined_in, middle, pairs, ready, slot_at, slot_of}
 pub use Rattle.tor_board.specs.{Trees.{times_given, word_of}, Views.{both, desk_of, desks_of, failing, failures, first}}
 pub use Rattle.tor_board.specs.Views.{fresh, handed, joining, keeping, named, rested, spent, stopped, topped}

@@ -1,13 +1,15 @@
 -- The shape of a new board, and the rule at its start.
-use Rattle.{atomic_table.proofs.Lists.some_there, atomic_table.specs.Table.opening, std.proofs.lemmas.List.at_drop_more}
-use Rattle.{std.proofs.lemmas.List.{length-map, length-replicate}, tor_board.proofs.Names.{Fits, IsKnown, IsShape}}
+use Rattle.atomic_table.{proofs.Lists.some_there, specs.Table.opening}
+use Rattle.std.proofs.lemmas.List.{at_drop_more}
+use Rattle.{std.proofs.lemmas.List.{length-map, length-replicate}, tor_board.proofs.Names.{AreApart, Fits, IsKnown, IsRun, IsShape}}
 use Rattle.tor_board.proofs.Names.{IsTreeOf, Keeps, KeepsTree, List, Run, Shape, Tree, View, [], ap, arith, below}
 use Rattle.tor_board.proofs.Names.{dec_le, dite, drop, first, get_elem?, get_or, get_or-set_other, get_or-set_same}
 use Rattle.tor_board.proofs.Names.{length, length-set, map, middle, min, nobody, pow_mono, ready, refl, replicate}
 use Rattle.tor_board.proofs.Names.{run_of, set, some, some-injective, some-ne-none, subst, suc, sym, total, units_in}
 use Rattle.tor_board.proofs.Names.{word_of, zero, ℕ, ◌*◌, ◌+◌, ◌-◌, ◌/◌, ◌<◌, ◌^◌, ◌∙◌, ◌∷◌, ◌≡◌, ◌≢◌, ◌≤◌}
 use Rattle.tor_board.{proofs.Trees.{ready_chain, ready_node}, specs.steps.Row.trees_from}
-use Rattle.{tor_merkle.proofs.ProvedLaws.height_covers, tor_merkle.specs.Subtree.height, tor_plan.specs.Forest.AreRuns}
+use Rattle.{tor_merkle.proofs.ProvedLaws.height_covers, tor_merkle.specs.Subtree.height}
+use Rattle.tor_board.proofs.{Apart.{ends_before, few_units}, Sums.here}
 
 -- a run's tree of that height
 abbrev pub laid : ℕ → ℕ → Run → ℕ → Tree
@@ -21,59 +23,67 @@ laid number offset run high = record {
 }
 
 -- what is known of a tree of runs
-at : (units number offset from end : ℕ) (runs : List Run) → AreRuns units from runs → offset ≤ from
-    → offset + units_in runs ≤ end → (k : ℕ) (t : Tree) → get_elem? (trees_from number offset runs) k ≡ some t
-    → Fits units (2 + end) (2 * end) t × (t.number ≡ number + k) × (from ≤ t.first) × (offset ≤ t.offset)
-unfolding AreRuns trees_from
-at units number offset from end [] are le fit k t e = absurd (some-ne-none t (sym e))
-at units number offset from end (run ∷ runs) are le fit zero t e =
+at : (units number offset end : ℕ) (runs : List Run)
+    → ((k : ℕ) (run : Run) → get_elem? runs k ≡ some run → IsRun units run) → offset + units_in runs ≤ end → end ≤ units
+    → (k : ℕ) (t : Tree) → get_elem? (trees_from number offset runs) k ≡ some t
+    → Fits units (2 + end) (2 * end) t × (t.number ≡ number + k) × (get_elem? runs k ≡ some (run_of t))
+unfolding trees_from
+at units number offset end [] are fit few k t e = absurd (some-ne-none t (sym e))
+at units number offset end (run ∷ runs) are fit few zero t e =
+    let is = are 0 run refl in
     let fits : Fits units (2 + end) (2 * end) (laid number offset run (height run.count)) = record {
-      several = are.1;
+      several = is.several;
       tall = height_covers run.count;
       least = refl;
-      low = are.3;
-      below = are.2;
-      behind = omega (arith, are.0);
+      low = is.low;
+      below = is.below;
+      among = omega arith;
       long = omega arith;
       wide = omega arith;
-    } in rw (sym (some-injective _ t e)) (fits, omega arith, are.0, omega arith)
-at units number offset from end (run ∷ runs) are le fit (suc k) t e =
-    let r = at units (number + 1) (offset + run.count) (run.first + run.count) end runs are.4 (omega (arith, are.0))
-    (omega arith) k t e in (r.0, omega (arith, r.1), omega (arith, are.0, r.2), omega (arith, r.3))
+    } in rw (sym (some-injective _ t e)) (fits, omega arith, refl)
+at units number offset end (run ∷ runs) are fit few (suc k) t e =
+    let r = at units (number + 1) (offset + run.count) end runs (λ j r f. are (suc j) r f) (omega arith) few k t e in
+    (r.0, omega (arith, r.1), r.2)
 
-apart : (units number offset from end : ℕ) (runs : List Run) → AreRuns units from runs → offset ≤ from
-    → offset + units_in runs ≤ end → (j k : ℕ) (t u : Tree) → get_elem? (trees_from number offset runs) j ≡ some t
-    → get_elem? (trees_from number offset runs) k ≡ some u → j < k
-    → (t.first + t.count ≤ u.first) × (t.offset + t.count ≤ u.offset)
-unfolding AreRuns trees_from
-apart units number offset from end [] are le fit j k t u e f less = absurd (some-ne-none t (sym e))
-apart units number offset from end (run ∷ runs) are le fit j zero t u e f less = omega arith
-apart units number offset from end (run ∷ runs) are le fit zero (suc k) t u e f less =
-    let r = at units (number + 1) (offset + run.count) (run.first + run.count) end runs are.4 (omega (arith, are.0))
-    (omega arith) k u f in rw (sym (some-injective _ t e)) (r.2, r.3)
-apart units number offset from end (run ∷ runs) are le fit (suc j) (suc k) t u e f less
-    = apart units (number + 1) (offset + run.count) (run.first + run.count) end runs are.4 (omega (arith, are.0))
-    (omega arith) j k t u e f (omega arith)
+behind : (number offset : ℕ) (runs : List Run) (k : ℕ) (t : Tree) → get_elem? (trees_from number offset runs) k ≡ some t
+    → offset ≤ t.offset
+unfolding trees_from
+behind number offset [] k t e = absurd (some-ne-none t (sym e))
+behind number offset (run ∷ runs) zero t e = rw (sym (some-injective _ t e)) (omega arith)
+behind number offset (run ∷ runs) (suc k) t e = omega (arith, behind (number + 1) (offset + run.count) runs k t e)
+
+in_row : (number offset : ℕ) (runs : List Run) (j k : ℕ) (t u : Tree)
+    → get_elem? (trees_from number offset runs) j ≡ some t → get_elem? (trees_from number offset runs) k ≡ some u → j < k
+    → t.offset + t.count ≤ u.offset
+unfolding trees_from
+in_row number offset [] j k t u e f less = absurd (some-ne-none t (sym e))
+in_row number offset (run ∷ runs) j zero t u e f less = omega arith
+in_row number offset (run ∷ runs) zero (suc k) t u e f less =
+    let later = behind (number + 1) (offset + run.count) runs k u f in rw (sym (some-injective _ t e)) later
+in_row number offset (run ∷ runs) (suc j) (suc k) t u e f less
+    = in_row (number + 1) (offset + run.count) runs j k t u e f (omega arith)
 
 pub runs_back : (number offset : ℕ) (runs : List Run) → map run_of (trees_from number offset runs) ≡ runs
 unfolding trees_from
 runs_back number offset [] = refl
 runs_back number offset (run ∷ runs) = ap (λ (l : List Run). run ∷ l) (runs_back (number + 1) (offset + run.count) runs)
 
-pub shaped : (units : ℕ) (runs : List Run) → AreRuns units 0 runs → units ≤ 2 ^ 62 → (shape : Shape)
+pub shaped : (units : ℕ) (runs : List Run) → AreApart units runs → units ≤ 2 ^ 62 → (shape : Shape)
     → shape.units ≡ units → shape.trees.items ≡ trees_from 0 0 runs
     → IsShape (2 + units_in runs) (2 * units_in runs) shape
 shaped units runs are small shape units_is trees_is =
     let list : (k : ℕ) (t : Tree) → get_elem? shape.trees.items k ≡ some t → get_elem? (trees_from 0 0 runs) k ≡ some t
     = λ k t e. ap (λ (l : List Tree). get_elem? l k) (sym trees_is) ∙ e in
     let there = λ (k : ℕ) (t : Tree) (e : get_elem? shape.trees.items k ≡ some t).
-    at units 0 0 0 (units_in runs) runs are (omega arith) (omega arith) k t (list k t e) in record {
+    at units 0 0 (units_in runs) runs are.each (omega arith) (few_units units runs are) k t (list k t e) in record {
       small = omega arith;
       two = omega arith;
       numbered = λ k t e. omega (arith, (there k t e).1);
       fits = λ t is. rw units_is (there t.number t is).0;
-      apart = λ t u is is' less. apart units 0 0 0 (units_in runs) runs are (omega arith) (omega arith)
-          t.number u.number t u (list t.number t is) (list u.number u is') less;
+      apart = λ t u is is' ne le. ends_before (run_of t) (run_of u)
+          (let f = (there u.number u is').0 in omega (arith, f.several)) (λ n h h'. ne
+          (are.once t.number u.number (run_of t) (run_of u) (there t.number t is).2 (there u.number u is').2 n h h')) le;
+      laid = λ t u is is' less. in_row 0 0 runs t.number u.number t u (list t.number t is) (list u.number u is') less;
     }
 
 -- ---- the rule at the start
@@ -168,16 +178,13 @@ module _ (shape : Shape) (places : ℕ) (is_shape : IsShape (2 + places) (2 * pl
 abbrev pub no_run : Run
 no_run = record { first = 0; count = 0; level = 0 }
 
--- the next run, and what it makes of the trees
-pub next_run : (units from : ℕ) (runs : List Run) (i : ℕ) → i < length runs → AreRuns units from (drop i runs)
-    → (drop i runs ≡ get_or runs i no_run ∷ drop (i + 1) runs)
-    × ((get_or runs i no_run).level + height (get_or runs i no_run).count ≤ 36) × (from ≤ (get_or runs i no_run).first)
-    × ((get_or runs i no_run).first + (get_or runs i no_run).count ≤ units)
-    × AreRuns units ((get_or runs i no_run).first + (get_or runs i no_run).count) (drop (i + 1) runs)
-unfolding AreRuns
-next_run units from runs i inside are =
-    let more = at_drop_more (λ (l : List Run). l) runs i no_run inside in let a = subst (AreRuns units from) more are in
-    (more, a.3, a.0, a.2, a.4)
+-- the next run
+pub next_run : (runs : List Run) (i : ℕ) → i < length runs
+    → (drop i runs ≡ get_or runs i no_run ∷ drop (i + 1) runs) × (get_elem? runs i ≡ some (get_or runs i no_run))
+next_run runs i inside = (
+  at_drop_more (λ (l : List Run). l) runs i no_run inside,
+  here runs i no_run inside,
+)
 
 pub tree_there : (number offset : ℕ) (run : Run) (runs : List Run) → trees_from number offset (run ∷ runs)
     ≡ laid number offset run (height run.count) ∷ trees_from (number + 1) (offset + run.count) runs
@@ -190,10 +197,3 @@ no_tree number offset = refl
 
 pub low_count : (run : Run) → run.level + height run.count ≤ 36 → run.count ≤ 2 ^ 36
 low_count run low = grind (arith, height_covers run.count, pow_mono)
-
-pub few_places : (units from offset : ℕ) (runs : List Run) → AreRuns units from runs → offset ≤ from → from ≤ units
-    → offset + units_in runs ≤ units
-unfolding AreRuns
-few_places units from offset [] are le small = omega arith
-few_places units from offset (run ∷ runs) are le small
-    = grind (arith, few_places units (run.first + run.count) (offset + run.count) runs are.4, are.0)

@@ -1,5 +1,5 @@
 -- Sums over lists of which one item changes, and what holds of each item.
-use Rattle.{atomic_table.proofs.Lists.{at_set, at_snoc}, tor_board.proofs.Names.{Bool, List, [], ap, arith, below}}
+use Rattle.{atomic_table.proofs.Lists.{at_set, at_snoc}, tor_board.proofs.Names.{Bool, List, [], ap, arith, below, dec_le}}
 use Rattle.tor_board.proofs.Names.{cond, dite, get_elem?, get_or, inl, inr, length, ltb, map, only, refl, set, some}
 use Rattle.tor_board.proofs.Names.{some-injective, some-ne-none, subst, suc, sym, times, total, zero, ℕ, ℕ_discrete}
 use Rattle.tor_board.{proofs.Names.{◌++◌, ◌+◌, ◌<◌, ◌∷◌, ◌≡◌, ◌≢◌, ◌≤◌}, specs.Weights.without}
@@ -26,6 +26,19 @@ module _ {A : Type 0} (g : A → ℕ) where
   pub total_le : (h : A → ℕ) (l : List A) → ((x : A) → g x ≤ h x) → total g l ≤ total h l
   total_le h [] le = omega arith
   total_le h (x ∷ xs) le = omega (arith, le x, total_le h xs le)
+
+-- what weighs the same on each item
+pub total_same : {A : Type 0} (g h : A → ℕ) (l : List A) → ((k : ℕ) (x : A) → get_elem? l k ≡ some x → g x ≡ h x)
+    → total g l ≡ total h l
+total_same g h [] same = refl
+total_same g h (x ∷ xs) same = omega (arith, same 0 x refl, total_same g h xs (λ k y e. same (suc k) y e))
+
+-- an item with some weight, where the list has some
+pub weighs : {A : Type 0} (f : A → ℕ) (l : List A) → 0 < total f l
+    → (k : ℕ) × (x : A) × (get_elem? l k ≡ some x) × (0 < f x)
+weighs f [] h = absurd (omega arith)
+weighs f (x ∷ xs) h = dite (dec_le 1 (f x)) (λ some_here. (0, x, refl, some_here))
+    (λ none_here. let r = weighs f xs (omega arith) in (suc r.0, r.1, r.2, r.3))
 
 -- where the j-th has the whole of r, and those with no r have no g, it has the whole of g
 pub alone : {A : Type 0} (g r : A → ℕ) (l : List A) (j : ℕ) (v : A) → get_elem? l j ≡ some v → total r l ≡ r v
@@ -68,6 +81,11 @@ pub read : {X : Type 0} (l : List X) (i : ℕ) (x d : X) → get_elem? l i ≡ s
 read [] i x d e = absurd (some-ne-none x (sym e))
 read (y ∷ l) zero x d e = some-injective y x e
 read (y ∷ l) (suc i) x d e = read l i x d e
+
+pub here : {X : Type 0} (l : List X) (i : ℕ) (d : X) → i < length l → get_elem? l i ≡ some (get_or l i d)
+here [] i d inside = absurd (omega arith)
+here (y ∷ l) zero d inside = refl
+here (y ∷ l) (suc i) d inside = here l i d (omega arith)
 
 pub below_more : (f : ℕ → ℕ) (n : ℕ) → below f (n + 1) ≡ below f n + f n
 below_more f n = let e : n + 1 ≡ suc n = omega arith in ap (below f) e

@@ -1,9 +1,9 @@
 //! The board that workers share.
 ghost use Rattle.std.specs.Prelude.{◌≡◌, length, replicate, None};
-ghost use Rattle.tor_board.specs.Shapes.{IsShape};
+ghost use Rattle.tor_board.specs.Shapes.{AreStarts, IsShape};
 
 use crate::rule::BoardRule;
-use crate::tree::Shape;
+use crate::tree::{Shape, Start};
 use crate::view::View;
 use atomic_table::Table;
 use std::alloc::Global;
@@ -23,10 +23,13 @@ pub(crate) const NONE_FAILED: u64 = u64::MAX;
 pub struct Board {
     pub(crate) table: Table<Hash, View, Shape, BoardRule, Global>,
     pub(crate) shape: Shape,
+    // In the order of the trees' units.
+    pub(crate) starts: Vec<Start>,
     pub(crate) roots: Vec<Option<Hash>>,
     ghost bare: { roots.items ≡ replicate (length shape.trees.items) None },
     ghost sized: { table.shared.key ≡ shape },
     ghost shaped: { IsShape table.shared.table_id.words table.shared.table_id.slots shape },
+    ghost started: { AreStarts shape.trees.items starts.items },
 }
 
 /// Why a seat is not split.

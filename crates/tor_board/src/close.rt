@@ -37,6 +37,7 @@ impl Board {
         let Board {
             table,
             shape,
+            starts: _,
             mut roots,
         } = self;
         let Seat {

@@ -38,7 +38,7 @@ impl Board {
             room: _,
             done: _,
         } = seat;
-        let Some(tree) = self.shape.tree_of(number) else {
+        let Some(tree) = self.shape.tree_of(&self.starts, number) else {
             hand_alone::<Brand>(cells, inner, number, &hash);
             return Given {
                 joined: 0,

@@ -1,9 +1,11 @@
 //! What holds of a board between any two steps, and of the machine of events that it is.
 ghost use Rattle.std.specs.Prelude.{◌≡◌, ◌≢◌, ◌<◌, ◌⊎◌, true, ℕ, ◌+◌, ◌≤◌, List, [], ◌∷◌, ◌++◌, None, slice_index};
 ghost use Rattle.std.specs.Prelude.{slice_set};
+ghost use Rattle.std.specs.List.Sorted.{IsPermutation};
 ghost use mathlib.Core.Option.{some};
 ghost use lib.ListN.{get_elem?};
 ghost use Rattle.atomic_table.specs.Table.{State, Step};
+ghost use Rattle.tor_plan.specs.Forest.{AreRuns};
 ghost use Rattle.tor_plan.specs.declared.forests.Run.{Run};
 ghost use Rattle.tor_board.specs.Examples.{IsExcluded, end, events, forest, rising_end, rising_events, three_units};
 ghost use Rattle.tor_board.specs.Machine.{Event, Machine, IsLegalRun, IsLawfulState};
@@ -11,7 +13,7 @@ ghost use Rattle.tor_board.specs.Machine.{look, claim, hand, arrive, seal, fail,
 ghost use Rattle.tor_board.specs.Plays.{IsFree};
 ghost use Rattle.tor_board.specs.Rule.{Keeps, nobody};
 ghost use Rattle.tor_board.specs.Running.{IsRunning};
-ghost use Rattle.tor_board.specs.Shapes.{IsShape};
+ghost use Rattle.tor_board.specs.Shapes.{AreApart, IsShape};
 ghost use Rattle.tor_board.specs.Stepping.{Shows, AreHome, IsBoardStep, IsEvent, IsHistory, IsNoStep, IsRunOf};
 ghost use Rattle.tor_board.specs.Stepping.{IsStepOf};
 ghost use Rattle.tor_board.specs.declared.board.Board.{Board};
@@ -86,6 +88,14 @@ pub fn rule_law<J: Handing>()
     ensures board { (b : Board) → (b.table.shared.key ≡ b.shape)
         × IsShape b.table.shared.table_id.words b.table.shared.table_id.slots b.shape }
     ensures seat { (s : Seat) → IsFree s.inner.me.0 × (s.inner.me.1 ≡ []) }
+{}
+
+/// Runs in the order of their units, each after the one before it, are apart, and so are they in any other order. So a
+/// board opens over a plan's forest, in whatever order its runs are handed in.
+pub fn runs_are_apart()
+    ensures rising { (units from : ℕ) (runs : List Run) → AreRuns units from runs → AreApart units runs }
+    ensures moved { (units : ℕ) (runs moved : List Run) → AreApart units runs → IsPermutation runs moved
+        → AreApart units moved }
 {}
 
 /// Two runs of the machine that are worked out, and what is no event of it.

@@ -19,7 +19,7 @@
 //! - `close` (`close.rt`) tells the least unit that failed, and the roots ([`Closed`]).
 //! - [`board_law`] (`laws.rt`): what holds of a board between any two steps, and of the machine of events that it is.
 //!   [`rule_law`]: that a board's table keeps the rule of which it speaks, and that its steps are those events. What
-//!   the two name stands in [`rule`], [`view`] and [`Shape`].
+//!   the two name stands in [`rule`], [`view`] and [`Shape`]. [`runs_are_apart`]: over which forests a board opens.
 //!
 //! A board stands on a table of words and slots of the kit. `tree.rt` says which word and which slots a node has,
 //! `view.rt` what a seat knows, and `rule.rt` what every step keeps. `specs/Machine.antt` is the machine.
@@ -41,6 +41,6 @@ pub mod view;
 pub use board::{Board, SplitError};
 pub use close::Closed;
 pub use give::Given;
-pub use laws::{board_law, rule_law};
+pub use laws::{board_law, rule_law, runs_are_apart};
 pub use seat::{Job, Seat};
 pub use tree::Shape;

@@ -2,7 +2,7 @@
 ghost use Rattle.std.specs.Prelude.{◌≡◌, ◌≢◌, ℕ, ◌+◌, ◌-◌, ◌*◌, ◌/◌, ◌^◌, ◌<◌, ◌≤◌, IfSome, IfNone};
 ghost use Rattle.tor_board.specs.Trees.{middle, word_of, slot_of, slot_at};
 ghost use Rattle.tor_board.specs.Rising.{risen, raised};
-ghost use Rattle.tor_board.specs.Shapes.{IsShape, IsTreeOf};
+ghost use Rattle.tor_board.specs.Shapes.{AreStarts, IsShape, IsTreeOf};
 ghost use Rattle.tor_board.specs.steps.Row.{IsLow};
 ghost use Rattle.tor_board.specs.declared.tree.Tree.{Tree};
 
@@ -11,7 +11,7 @@ use tor_merkle::{Hash, pair, zero};
 /// The tree over the hashes of a run of units.
 #[derive(Clone, Copy)]
 pub(crate) struct Tree {
-    /// Its place among the trees of the forest.
+    /// Its place among the trees of the forest, in the order in which they were handed in.
     pub(crate) number: u64,
     /// How many units the trees before it have.
     pub(crate) offset: u64,
@@ -24,6 +24,9 @@ pub(crate) struct Tree {
     /// How many levels it has above its units.
     pub(crate) height: u32,
 }
+
+/// The first unit of a tree, and the tree's number.
+pub(crate) type Start = (u64, u64);
 
 /// A spot of a tree, so many levels above the units, and the hash that has come there.
 #[derive(Clone, Copy)]
@@ -41,18 +44,19 @@ pub struct Shape {
 }
 
 impl Shape {
-    /// The tree that has a unit, if one has.
-    pub(crate) fn tree_of(&self, unit: u64) -> Option<Tree>
+    /// The tree that has a unit, if one has, by where the trees start in the order of their units.
+    pub(crate) fn tree_of(&self, starts: &[Start], unit: u64) -> Option<Tree>
         requires shape { (words : ℕ) × (slots : ℕ) × IsShape words slots self.now }
+        requires starts { AreStarts self.now.trees.items starts.now }
         ensures some { IfSome result (λ t. IsTreeOf self.now t × (t.first ≤ unit) × (unit < t.first + t.count)) }
         ensures none { IfNone result ((t : Tree) → IsTreeOf self.now t → (j : ℕ) → j < t.count → unit ≢ t.first + j) }
     {
         let mut low = 0;
-        let mut high = self.trees.len();
+        let mut high = starts.len();
         // The trees before `low` begin at or before the unit, those from `high` on after it.
         'halves: while low < high {
             let middle = low + (high - low) / 2;
-            if self.trees[middle].first <= unit {
+            if starts[middle].0 <= unit {
                 low = middle + 1;
             } else {
                 high = middle;
@@ -61,7 +65,8 @@ impl Shape {
         if low == 0 {
             return None;
         }
-        let tree = self.trees[low - 1];
+        let (_, number) = starts[low - 1];
+        let tree = self.trees[number as usize];
         if unit - tree.first < tree.count {
             Some(tree)
         } else {

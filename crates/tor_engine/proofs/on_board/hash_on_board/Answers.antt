@@ -5,12 +5,17 @@ use Rattle.std.specs.Prelude.{Result, Vec}
 use Rattle.std.specs.declared.alloc.Global.{Global}
 use Rattle.tor_board.specs.Desks.{Desk}
 use Rattle.tor_board.specs.Seats.{IsAllGiven, knows}
+use Rattle.tor_board.proofs.ProvedLaws.{rising_runs_are_apart}
 use Rattle.tor_plan.specs.declared.forests.Run.{Run}
 use Rattle.tor_sums.specs.Fault.{IsFault, first_of}
 use Rattle.tor_engine.specs.declared.failure.Failure.{Failure}
 use Rattle.tor_engine.specs.steps.Taken.{AnswersSeat}
 use Rattle.tor_engine.proofs.BoardEnd.{faultless, least_fault, roots_there, summed}
 use Rattle.tor_engine.proofs.on_board.hash_on_board.Goals as goal
+
+pub open-requires-clause-runs : goal.open-requires-clause-runs
+open-requires-clause-runs g c
+    = rising_runs_are_apart (length c.args.units.now) 0 c.args.forest.now.trees.items c.requires.runs
 
 pub returns-in-Ok : goal.returns-in-Ok
 returns-in-Ok g c =

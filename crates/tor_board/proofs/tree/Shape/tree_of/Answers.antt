@@ -1,46 +1,62 @@
-use Rattle.tor_board.proofs.{Finding.{none_has, not_before, tree_there}, Names.{arith, ◌-◌}, Sums.within}
+use Rattle.tor_board.proofs.{Names.{arith, length, ◌+◌, ◌-◌, ◌/◌, ◌<◌}, Starts.{before_all, none_has, number_inside, tree_read}, Sums.{here, within}}
 use Rattle.tor_board.proofs.tree.Shape.tree_of.Goals as goal
 
 pub halves-init : goal.halves-init
 halves-init c = record {
   order = omega arith;
-  end = omega (arith, c.len-high.ensures);
-  before = λ k t e h. omega arith;
-  after = λ k t e h. omega (arith, c.len-high.ensures, within _ k t e);
+  end = omega arith;
+  before = λ k a e h. omega arith;
+  after = λ k a e h. omega (arith, within _ k a e);
 }
 
-pub halves-preserved-then-index-unit : goal.halves-preserved-then-index-unit
-halves-preserved-then-index-unit c = let i = c.halves.invariant in let shaped = c.requires.shape.2 in
-    let there = tree_there shaped _ _ (omega (arith, c.halves-test.true, i.end)) c.index.ensures in record {
+pub halves-preserved-then-starts-middle : goal.halves-preserved-then-starts-middle
+halves-preserved-then-starts-middle c = let i = c.halves.invariant in
+    let there = here c.args.starts.now (c.halves.low + (c.halves.high - c.halves.low) / 2) (0, 0)
+    (omega (arith, c.halves-test.true, i.end)) in record {
       order = omega (arith, c.halves-test.true);
-      end = i.end;
-      before = λ k t e h. omega (arith, (not_before shaped k _ t _ e there.0 (omega arith)).0, c.if-index-unit.true);
+      end = omega (arith, i.end, c.halves-test.true);
+      before = λ k a e h. omega (arith, c.requires.starts.rise k _ a _ e there (omega arith), c.if-starts-middle.true);
       after = i.after;
     }
 
 pub halves-preserved : goal.halves-preserved
-halves-preserved c = let i = c.halves.invariant in let shaped = c.requires.shape.2 in
-    let there = tree_there shaped _ _ (omega (arith, c.halves-test.true, i.end)) c.index.ensures in record {
+halves-preserved c = let i = c.halves.invariant in
+    let there = here c.args.starts.now (c.halves.low + (c.halves.high - c.halves.low) / 2) (0, 0)
+    (omega (arith, c.halves-test.true, i.end)) in record {
       order = omega (arith, c.halves-test.true);
       end = omega (arith, i.end, c.halves-test.true);
       before = i.before;
-      after = λ k t e h. omega (arith, (not_before shaped _ k _ t there.0 e h).0, c.if-index-unit.false);
+      after = λ k a e h. omega (arith, c.requires.starts.rise _ k _ a there e h, c.if-starts-middle.false);
     }
 
+pub returns-then-low-eq0-clause-none : goal.returns-then-low-eq0-clause-none
+returns-then-low-eq0-clause-none c = before_all c.requires.shape.2 c.args.starts.now c.requires.starts c.args.unit
+    (λ k a e. c.halves.invariant.after k a e (omega (arith, c.halves-test.false, c.if-low-eq0.true)))
+
+pub index-tree-requires : goal.index-tree-requires
+index-tree-requires c = let i = c.halves.invariant in
+    let inside = number_inside c.requires.shape.2 c.args.starts.now c.requires.starts (c.halves.low - 1)
+    (omega (arith, i.order, i.end, c.if-low-eq0.false)) in grind (arith, inside)
+
 pub overflow_sub-unit : goal.overflow_sub-unit
-overflow_sub-unit c = let i = c.halves.invariant in
-    let there = tree_there c.requires.shape.2 _ _ (omega (arith, i.order, i.end, c.if-low-eq0.false))
-    c.index-tree.ensures in i.before (c.halves.low - 1) _ there.0 (omega (arith, c.if-low-eq0.false))
+overflow_sub-unit c = let i = c.halves.invariant in let last = c.halves.low - 1 in
+    let inside : last < length c.args.starts.now = omega (arith, i.order, i.end, c.if-low-eq0.false) in
+    let r = tree_read c.requires.shape.2 c.args.starts.now c.requires.starts last _ inside c.index-tree.ensures in
+    omega (arith, r.1, i.before last _ (here c.args.starts.now last (0, 0) inside) (omega (arith, c.if-low-eq0.false)))
 
 pub returns-then-unit-tree-clause-some : goal.returns-then-unit-tree-clause-some
-returns-then-unit-tree-clause-some c = let i = c.halves.invariant in
-    let there = tree_there c.requires.shape.2 _ _ (omega (arith, i.order, i.end, c.if-low-eq0.false))
-    c.index-tree.ensures in let le = i.before (c.halves.low - 1) _ there.0 (omega (arith, c.if-low-eq0.false)) in
-    (there.1, le, omega (arith, c.if-unit-tree.true))
+returns-then-unit-tree-clause-some c = let i = c.halves.invariant in let last = c.halves.low - 1 in
+    let inside : last < length c.args.starts.now = omega (arith, i.order, i.end, c.if-low-eq0.false) in
+    let r = tree_read c.requires.shape.2 c.args.starts.now c.requires.starts last _ inside c.index-tree.ensures in
+    let le = i.before last _ (here c.args.starts.now last (0, 0) inside) (omega (arith, c.if-low-eq0.false)) in
+    (r.0, omega (arith, r.1, le), omega (arith, c.if-unit-tree.true))
 
 pub returns-else-unit-tree-clause-none : goal.returns-else-unit-tree-clause-none
-returns-else-unit-tree-clause-none c = let i = c.halves.invariant in
-    let there = tree_there c.requires.shape.2 _ _ (omega (arith, i.order, i.end, c.if-low-eq0.false))
-    c.index-tree.ensures in let le = i.before (c.halves.low - 1) _ there.0 (omega (arith, c.if-low-eq0.false)) in
-    none_has c.requires.shape.2 c.halves.low c.halves.high _ (omega (arith, c.halves-test.false)) i.after _
-    (omega (arith, c.if-low-eq0.false)) there.0 (omega (arith, c.if-unit-tree.false))
+returns-else-unit-tree-clause-none c = let i = c.halves.invariant in let last = c.halves.low - 1 in
+    let inside : last < length c.args.starts.now = omega (arith, i.order, i.end, c.if-low-eq0.false) in
+    let r = tree_read c.requires.shape.2 c.args.starts.now c.requires.starts last _ inside c.index-tree.ensures in
+    let le = i.before last _ (here c.args.starts.now last (0, 0) inside) (omega (arith, c.if-low-eq0.false)) in
+    none_has c.requires.shape.2 c.args.starts.now c.requires.starts c.halves.low c.args.unit
+    (omega (arith, c.if-low-eq0.false)) (omega (arith, i.order, i.end))
+    (λ k b e h. i.after k b e (omega (arith, c.halves-test.false, h))) _ c.index-tree.ensures
+    (omega (arith, r.1, le, c.if-unit-tree.false))

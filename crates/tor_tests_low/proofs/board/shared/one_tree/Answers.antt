@@ -1,6 +1,7 @@
 use Rattle.std.proofs.Common.{◌≡◌, ◌≤◌, ℕ, [], ◌∷◌, arith, sym, subst}
 use Rattle.std.specs.Result.{IfOk}
 use Rattle.tor_merkle.proofs.ProvedLaws.{height_least}
+use Rattle.tor_board.proofs.ProvedLaws.{rising_runs_are_apart}
 use Rattle.tor_plan.specs.Forest.{AreRuns}
 use Rattle.tor_tests_low.proofs.board.shared.one_tree.Goals as goal
 
@@ -15,4 +16,5 @@ open-requires-clause-runs g c =
     let e : c.expect-trees.result.items ≡ record { first = 0; count = c.args.count; level = c.args.level } ∷ []
     = subst (λ r. IfOk r (λ v. v.items ≡ record { first = 0; count = c.args.count; level = c.args.level } ∷ []))
     c.expect-trees.ensures c.vec.ensures.items in
-    subst (AreRuns c.args.count 0) (sym e) (runs_of_one c.args.count c.args.level r.0 r.1 r.2)
+    rising_runs_are_apart c.args.count 0 c.expect-trees.result.items
+    (subst (AreRuns c.args.count 0) (sym e) (runs_of_one c.args.count c.args.level r.0 r.1 r.2))

@@ -2,6 +2,7 @@ use Rattle.std.proofs.Common.{◌≡◌, ◌≤◌, ◌+◌, ◌*◌, ℕ, List,
 use Rattle.std.specs.Result.{IfOk}
 use Rattle.tor_merkle.proofs.ProvedLaws.{height_least}
 use Rattle.tor_plan.specs.declared.forests.Run.{Run}
+use Rattle.tor_board.proofs.ProvedLaws.{rising_runs_are_apart}
 use Rattle.tor_plan.specs.Forest.{AreRuns}
 use Rattle.tor_tests_low.proofs.board.shared.two_trees.Goals as goal
 
@@ -25,4 +26,5 @@ open-requires-clause-runs g c =
     let r = c.requires in let a = c.args in
     let e : c.expect-trees.result.items ≡ runs a.alone a.one a.two
     = subst (λ r. IfOk r (λ v. v.items ≡ runs a.alone a.one a.two)) c.expect-trees.ensures c.vec.ensures.items in
-    subst (AreRuns (2 * a.alone + a.one + a.two) 0) (sym e) (runs_of_two a.alone a.one a.two r.1 r.2 r.3 r.4)
+    rising_runs_are_apart (2 * a.alone + a.one + a.two) 0 c.expect-trees.result.items
+    (subst (AreRuns (2 * a.alone + a.one + a.two) 0) (sym e) (runs_of_two a.alone a.one a.two r.1 r.2 r.3 r.4))
