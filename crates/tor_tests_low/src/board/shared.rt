@@ -52,6 +52,26 @@ pub(crate) fn two_trees<R: AllocGlobal + Abort>(
     Board::open(alloc, &Forest { trees }, 2 * alone + one + two).expect(rt, "memory")
 }
 
+/// A board of two trees that are handed in in falling order: three units of level 1 from the fifth on, and two of
+/// level 0 from the second on.
+pub(crate) fn falling_trees<R: AllocGlobal + Abort>(rt: &R) -> (Board, Seat)
+    ensures { IsSeatOf result.0 result.1 }
+{
+    let alloc = rt.alloc();
+    let last = Run {
+        first: 4,
+        count: 3,
+        level: 1,
+    };
+    let first = Run {
+        first: 1,
+        count: 2,
+        level: 0,
+    };
+    let trees = vec![in alloc; last, first].expect(rt, "memory");
+    Board::open(alloc, &Forest { trees }, 7).expect(rt, "memory")
+}
+
 /// Two seats of one, which has to have room for them.
 pub(crate) fn halves<R: Abort>(rt: &R, board: &Board, seat: Seat) -> (Seat, Seat)
     requires { IsSeatOf board.now seat }

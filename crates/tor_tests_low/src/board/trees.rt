@@ -1,8 +1,8 @@
-//! Trees of other counts and levels, two trees, units of no tree.
+//! Trees of other counts and levels, two trees in either order, units of no tree.
 
 use crate::board::shared::{
-    Outcome, all_tops, has_root, joined, joined_in_all, one_tree, root_over, tops, two_trees,
-    unit_hash, worked,
+    Outcome, all_tops, falling_trees, has_root, joined, joined_in_all, one_tree, root_over, tops,
+    two_trees, unit_hash, worked,
 };
 use std::process::Abort;
 use tor_merkle::{Hash, pair, zero};
@@ -41,6 +41,30 @@ fn are_two_trees(done: &Outcome) -> bool {
 fn has_two_trees<R: AllocGlobal + Abort>(rt: &R) -> bool {
     let (board, seat) = two_trees(rt, 1, 2, 3);
     are_two_trees(&worked(rt, board, seat, 7))
+}
+
+/// Whether trees of three and of two units, handed in in falling order, have these tops and roots in that order.
+fn are_falling_trees(done: &Outcome, last: &Hash, first: &Hash) -> bool {
+    joined(&done.told, &[0, 0, 1, 0, 0, 1, 1])
+        && all_tops(&done.told) == 2
+        && tops(&done.told, 0, last) == 1
+        && tops(&done.told, 1, first) == 1
+        && has_root(&done.closed, 0, last)
+        && has_root(&done.closed, 1, first)
+}
+
+fn has_falling_trees<R: AllocGlobal + Abort>(rt: &R) -> bool {
+    let (board, seat) = falling_trees(rt);
+    are_falling_trees(
+        &worked(rt, board, seat, 7),
+        &root_over(rt, 4, 3, 1),
+        &root_over(rt, 1, 2, 0),
+    )
+}
+
+#[test]
+fn trees_in_falling_order(rt: HostRuntime) {
+    assert!(rt; has_falling_trees(&rt));
 }
 
 /// Whether the gives of so many units of one tree came second once less than there are units, and one told the root.
