@@ -6,7 +6,7 @@ ghost use Rattle.tor_meta.specs.Listing.{text_of_listing};
 ghost use Rattle.tor_meta.specs.Lots.{IsLotOf, plan_of_text};
 ghost use Rattle.tor_meta.specs.PlanText.{plan_bytes};
 ghost use Rattle.tor_parts.specs.Dealing.{dealt};
-ghost use Rattle.tor_parts.specs.OwnFiles.{HasToldOf, IsGivenOwn, files_of, own_fault};
+ghost use Rattle.tor_parts.specs.OwnFiles.{HasToldOf, IsGivenOwn, IsOfFiles, files_of, own_fault};
 ghost use Rattle.tor_parts.specs.declared.lot_text.TheConstants.{MAX_LOTS};
 ghost use Rattle.tor_source.specs.Source.{SourceFacts};
 ghost use Rattle.tor_sums.specs.Contents.{contents_in};
@@ -30,8 +30,8 @@ use tor_source::Source;
 ///
 /// # Errors
 ///
-/// The first fault: `Read`, `Changed` or `Missing` for a length, then `Read` or `Changed` for a byte. `Resources` at
-/// any place.
+/// The first fault of these files: `Read`, `Changed` or `Missing` for a length, then `Read` or `Changed` for a byte.
+/// `Resources` at any place.
 pub fn make_lot<S: Source, R: Threads + Sync>(
     rt: &R,
     alloc: Global,
@@ -50,10 +50,11 @@ pub fn make_lot<S: Source, R: Threads + Sync>(
         map length contents ≡ lengths_of listing.now.list.files →
         AreSameAt contents (contents_in facts (length (lengths_of listing.now.list.files)))
         (dealt lots number (plan_of_text (text_of_listing listing.now)).units) →
-        MatchResult result
-        (λ bytes. IsLotOf (plan_of_text (text_of_listing listing.now)) (pieces_root plan.now) lots number contents
-        bytes.items × (own_fault facts (lengths_of listing.now.list.files)
-        (dealt lots number (plan_of_text (text_of_listing listing.now)).units) ≡ None))
+        IfOk result (λ bytes. IsLotOf (plan_of_text (text_of_listing listing.now)) (pieces_root plan.now) lots number
+        contents bytes.items) }
+    ensures fault { (facts : SourceFacts S.Fault) → S.is_steady source.now facts → MatchResult result
+        (λ _. own_fault facts (lengths_of listing.now.list.files)
+        (dealt lots number (plan_of_text (text_of_listing listing.now)).units) ≡ None)
         (IsFault (own_fault facts (lengths_of listing.now.list.files)
         (dealt lots number (plan_of_text (text_of_listing listing.now)).units))) }
     ensures whole { IfOk result (λ bytes. (contents : List (List ℕ))
@@ -62,6 +63,8 @@ pub fn make_lot<S: Source, R: Threads + Sync>(
         bytes.items) }
     ensures told { IfOk result (λ _. HasToldOf (S.answers source.now) (lengths_of listing.now.list.files)
         (files_of (dealt lots number (plan_of_text (text_of_listing listing.now)).units))) }
+    ensures of_lot { IfErr result
+        (IsOfFiles (files_of (dealt lots number (plan_of_text (text_of_listing listing.now)).units))) }
     ensures gave { IfErr result (IsGivenOwn (S.answers source.now) (lengths_of listing.now.list.files)) }
 {
     let digest = plan_digest(alloc, plan)?;

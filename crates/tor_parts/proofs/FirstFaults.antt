@@ -5,7 +5,7 @@ use Rattle.std.specs.List.{AllByRecursion, flat_map}
 use Rattle.std.specs.Option.{option_or}
 use Rattle.tor_sums.specs.Fault.{first_of}
 
-both_none : {B : Type 0} (a b : Option B) → option_or a b ≡ None → (a ≡ None) × (b ≡ None)
+pub both_none : {B : Type 0} (a b : Option B) → option_or a b ≡ None → (a ≡ None) × (b ≡ None)
 both_none None b none = (refl, none)
 both_none (Some x) b none = cc
 
@@ -33,7 +33,7 @@ module _ {A B : Type 0} (f : A → Option B) where
   found_later (x ∷ xs) ys e none found =
       let parts = both_none (f x) (first_of f xs) none in rw parts.0 (found_later xs ys e parts.1 found)
 
-  split_none : (ys zs : List A) → first_of f (ys ++ zs) ≡ None → (first_of f ys ≡ None) × (first_of f zs ≡ None)
+  pub split_none : (ys zs : List A) → first_of f (ys ++ zs) ≡ None → (first_of f ys ≡ None) × (first_of f zs ≡ None)
   unfolding first_of
   split_none [] zs none = (refl, none)
   split_none (y ∷ ys) zs none =
@@ -90,7 +90,7 @@ module _ {A B X : Type 0} (f : A → Option B) where
 
 -- ---- what holds of all
 
-all_both : {A : Type 0} (P : A → Type 0) (xs ys : List A) → AllByRecursion P xs → AllByRecursion P ys
+pub all_both : {A : Type 0} (P : A → Type 0) (xs ys : List A) → AllByRecursion P xs → AllByRecursion P ys
     → AllByRecursion P (xs ++ ys)
 all_both P [] ys one more = more
 all_both P (x ∷ xs) ys one more = (one.0, all_both P xs ys one.1 more)

@@ -7,9 +7,11 @@ pub mod LotHashes
 pub mod LotPairs
 pub mod LotsJoined
 pub mod OneLot
+pub mod OwnErrors
 pub mod OwnPieces
 pub mod PlanSums
 pub mod PlanUnits
+pub mod PlannedContents
 pub mod ProvedLaws
 pub mod RootsThere
 pub mod RowLists

@@ -1,5 +1,6 @@
 -- The files of which units have parts, and what asking their lengths comes to.
-use Rattle.std.specs.Prelude.{◌==◌, ℕ, List, length, map, slice_index, Option, None, Some, Result, Ok, Err, if◌then◌else◌}
+use Rattle.std.specs.Prelude.{◌==◌, ℕ, Contains, List, length, map, slice_index, Option, None, Some, Result, Ok, Err}
+use Rattle.std.specs.Prelude.{if◌then◌else◌}
 use Rattle.std.specs.List.{AllByRecursion, flat_map}
 use Rattle.std.specs.Option.{option_or}
 use Rattle.tor_plan.specs.declared.units.PlanUnit.{PlanUnit}
@@ -8,7 +9,7 @@ use Rattle.tor_source.specs.Source.{SourceFacts, told_length}
 use Rattle.tor_sums.specs.Fault.{first_of, units_fault}
 use Rattle.tor_sums.specs.Given.{Departs, HasCause}
 use Rattle.tor_sums.specs.declared.errors.EngineError.{EngineError}
-use Rattle.tor_sums.specs.declared.errors.EngineError.TheVariants.{Changed, Missing, Read}
+use Rattle.tor_sums.specs.declared.errors.EngineError.TheVariants.{Changed, Missing, Read, Resources, StreamTooLong}
 
 -- the files of which units have parts, one for each part, in the order of the parts (profile)
 abbrev pub files_of : List PlanUnit → List ℕ
@@ -47,3 +48,12 @@ IsGivenOwn answers lengths error = HasCause (record {
   changed = λ file. Departs answers file (Some (slice_index lengths file));
   missing = λ file. answers.told file None;
 }) error
+
+-- an error names no file but one of these: a fault is of one of them, be it of the length or of a byte, so is a change,
+-- and so is what is missing; no stream is read
+abbrev pub IsOfFiles : {F : Type 0} → List ℕ → EngineError F → Type 0
+IsOfFiles files (Read file start fault) = Contains files file
+IsOfFiles files (Changed file) = Contains files file
+IsOfFiles files (Missing file) = Contains files file
+IsOfFiles files Resources = Unit {0}
+IsOfFiles files (StreamTooLong file) = ⊥

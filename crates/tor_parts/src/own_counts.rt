@@ -2,9 +2,8 @@
 ghost use Rattle.std.specs.Prelude.{◌≡◌, ◌↔◌, ◌<◌, ◌≤◌, ◌*◌, ◌^◌, All, IsTrue, length, sum_by};
 ghost use Rattle.std.specs.Prelude.{if◌then◌else◌};
 ghost use Rattle.std.specs.Int.{div_ceil};
-ghost use Rattle.tor_engine.specs.Rows.{units_between};
+ghost use Rattle.tor_engine.specs.Rows.{AreInFiles, units_between};
 ghost use Rattle.tor_parts.specs.LotCounts.{HasOwnPieces, pieces_of_parts, pieces_of_units};
-ghost use Rattle.tor_parts.specs.steps.OwnFiles.{AreFilesOf};
 ghost use Rattle.tor_plan.specs.WithinEntries.{unit_length};
 ghost use Rattle.tor_tree.specs.Kinds.{has_v1, has_v2};
 
@@ -109,7 +108,7 @@ pub(crate) fn units_between(plan: &Plan, from: usize, to: usize) -> &[PlanUnit]
     requires ordered { from ≤ to }
     requires within { to ≤ length plan.now.units }
     ensures units { result.now ≡ units_between from to plan.now.units }
-    ensures in_files { All (λ unit. AreFilesOf plan.now.lengths unit.parts) result.now }
+    ensures in_files { AreInFiles plan.now.lengths result.now }
     ensures small { All (λ unit. unit_length unit ≤ 2 ^ 40) result.now }
     ensures few { length result.now ≤ 2 ^ 62 }
 {

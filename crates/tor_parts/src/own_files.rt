@@ -1,9 +1,12 @@
 //! The lengths of the files of which units have parts, asked of their source.
-ghost use Rattle.std.specs.Prelude.{◌≡◌, ◌<◌, ℕ, All, IfErr, IfOk, IfSome, List, MatchResult, None, Option, Some, length};
-ghost use Rattle.std.specs.Prelude.{map, slice_index};
+ghost use Rattle.std.specs.Prelude.{◌≡◌, ◌<◌, ℕ, All, Contains, IfErr, IfOk, IfSome, List, MatchResult, None, Option};
+ghost use Rattle.std.specs.Prelude.{Some, length, map, slice_index};
 ghost use Rattle.std.specs.List.{AllByRecursion};
-ghost use Rattle.tor_parts.specs.OwnFiles.{HasToldOf, IsGivenOwn, files_of, own_length_fault, planned_fault};
-ghost use Rattle.tor_parts.specs.steps.OwnFiles.{AreFilesOf, IsAsked, IsToldOf};
+ghost use Rattle.tor_engine.specs.Rows.{AreInFiles};
+ghost use Rattle.tor_parts.specs.OwnFiles.{HasToldOf, IsGivenOwn, IsOfFiles, files_of, own_length_fault};
+ghost use Rattle.tor_parts.specs.OwnFiles.{planned_fault};
+ghost use Rattle.tor_parts.specs.steps.OwnFiles.{IsAsked, IsToldOf};
+ghost use Rattle.tor_plan.specs.WithinEntries.{IsInFile};
 ghost use Rattle.tor_plan.specs.declared.units.Part.{Part};
 ghost use Rattle.tor_source.specs.Source.{SourceFacts};
 ghost use Rattle.tor_sums.specs.Fault.{first_of};
@@ -20,11 +23,12 @@ pub(crate) fn expect_own<S: Source>(
     lengths: &[u64],
     units: &[PlanUnit],
 ) -> Result<(), EngineError<S::Fault>>
-    requires { All (λ unit. AreFilesOf lengths.now unit.parts) units.now }
+    requires { AreInFiles lengths.now units.now }
     ensures steady { (facts : SourceFacts S.Fault) → S.is_steady source.now facts →
         MatchResult result (λ _. own_length_fault facts lengths.now units.now ≡ None)
         (λ error. own_length_fault facts lengths.now units.now ≡ Some error) }
     ensures told { IfOk result (λ _. HasToldOf (S.answers source.now) lengths.now (files_of units.now)) }
+    ensures of_files { IfErr result (IsOfFiles (files_of units.now)) }
     ensures gave { IfErr result (IsGivenOwn (S.answers source.now) lengths.now) }
 {
     let mut last = None;
@@ -45,7 +49,7 @@ fn expect_parts<S: Source>(
     parts: &[Part],
     last: Option<u64>,
 ) -> Result<Option<u64>, EngineError<S::Fault>>
-    requires { AreFilesOf lengths.now parts.now }
+    requires { All (IsInFile lengths.now) parts.now }
     ensures steady { (facts : SourceFacts S.Fault) → S.is_steady source.now facts →
         IsAsked facts lengths.now last → MatchResult result
         (λ file. IsAsked facts lengths.now file
@@ -54,6 +58,8 @@ fn expect_parts<S: Source>(
     ensures told { IsToldOf (S.answers source.now) lengths.now last → IfOk result (λ file.
         IsToldOf (S.answers source.now) lengths.now file
         × HasToldOf (S.answers source.now) lengths.now (map (λ part. part.file) parts.now)) }
+    ensures of_files { (files : List ℕ) → All (λ part. Contains files part.file) parts.now →
+        IfErr result (IsOfFiles files) }
     ensures gave { IfErr result (IsGivenOwn (S.answers source.now) lengths.now) }
 {
     let mut last = last;
@@ -79,6 +85,7 @@ fn expect_next<S: Source>(
         (λ error. planned_fault facts lengths.now file ≡ Some error) }
     ensures told { IsToldOf (S.answers source.now) lengths.now last →
         IfOk result (λ _. (S.answers source.now).told file (Some (slice_index lengths.now file))) }
+    ensures of_files { (files : List ℕ) → Contains files file → IfErr result (IsOfFiles files) }
     ensures gave { IfErr result (IsGivenOwn (S.answers source.now) lengths.now) }
 {
     match last {
@@ -98,6 +105,7 @@ fn expect_length<S: Source>(
         (λ _. planned_fault facts lengths.now file ≡ None)
         (λ error. planned_fault facts lengths.now file ≡ Some error) }
     ensures told { IfOk result (λ _. (S.answers source.now).told file (Some (slice_index lengths.now file))) }
+    ensures of_files { (files : List ℕ) → Contains files file → IfErr result (IsOfFiles files) }
     ensures gave { IfErr result (IsGivenOwn (S.answers source.now) lengths.now) }
 {
     let planned = lengths[file as usize];

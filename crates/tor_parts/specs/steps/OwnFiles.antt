@@ -1,13 +1,8 @@
 -- The file that was asked last. Only private clauses cite these.
-use Rattle.std.specs.Prelude.{◌≡◌, ◌<◌, ℕ, List, length, slice_index, All, Option, None, Some, IfSome}
+use Rattle.std.specs.Prelude.{◌≡◌, ℕ, List, slice_index, Option, None, Some, IfSome}
 use Rattle.tor_parts.specs.OwnFiles.{planned_fault}
-use Rattle.tor_plan.specs.declared.units.Part.{Part}
 use Rattle.tor_source.specs.Answers.{Answers}
 use Rattle.tor_source.specs.Source.{SourceFacts}
-
--- there are lengths for all of their files
-abbrev pub AreFilesOf : List ℕ → List Part → Type 0
-AreFilesOf lengths parts = All (λ part. part.file < length lengths) parts
 
 -- it had no fault
 abbrev pub IsAsked : {F : Type 0} → SourceFacts F → List ℕ → Option ℕ → Type 0

@@ -7,7 +7,7 @@ use Rattle.tor_meta.specs.Listing.{text_of_listing}
 use Rattle.tor_meta.specs.Lots.{plan_of_text}
 use Rattle.tor_meta.proofs.PlanBytes.{some_bytes}
 use Rattle.tor_parts.specs.Dealing.{dealt}
-use Rattle.tor_parts.specs.OwnFiles.{HasToldOf, IsGivenOwn, files_of, own_fault}
+use Rattle.tor_parts.specs.OwnFiles.{HasToldOf, IsGivenOwn, IsOfFiles, files_of, own_fault}
 use Rattle.tor_plan.specs.Content.{unit_content}
 use Rattle.tor_plan.specs.PlanFacts.{PlanFacts}
 use Rattle.tor_plan.specs.declared.units.PlanUnit.{PlanUnit}
@@ -43,18 +43,21 @@ pub plan_digest-requires : goal.plan_digest-requires
 plan_digest-requires g c =
     omega (arith, ap length c.requires.plan, some_bytes (text_of_listing c.args.listing.now))
 
-pub returns-in-Err-clause-made : goal.returns-in-Err-clause-made
-returns-in-Err-clause-made g c = λ facts contents steady.
+pub returns-in-Err-clause-fault : goal.returns-in-Err-clause-fault
+returns-in-Err-clause-fault g c = λ facts steady.
     let lots = c.args.lots in
     let number = c.args.number in
-    subst (λ (ls : List ℕ). map length contents ≡ ls → AreSameAt contents (contents_in facts (length ls))
-    (dealt lots number (plan_of_text (text_of_listing c.args.listing.now)).units)
-    → IsFault (own_fault facts ls (dealt lots number (plan_of_text (text_of_listing c.args.listing.now)).units)) c.in-Err.error)
+    let error = c.in-Err.error in
+    let plan = plan_of_text (text_of_listing c.args.listing.now) in
+    subst (λ (ls : List ℕ). IsFault (own_fault facts ls (dealt lots number plan.units)) error)
     c.in_ok-units.ensures.lengths
-    (subst (λ (p : PlanFacts). map length contents ≡ c.in_ok-units.units.lengths
-    → AreSameAt contents (contents_in facts (length c.in_ok-units.units.lengths)) (dealt lots number p.units)
-    → IsFault (own_fault facts c.in_ok-units.units.lengths (dealt lots number p.units)) c.in-Err.error)
-    c.in_ok-units.ensures.same (c.in-Err.ensures.summed facts contents steady))
+    (subst (λ (p : PlanFacts). IsFault (own_fault facts c.in_ok-units.units.lengths (dealt lots number p.units)) error)
+    c.in_ok-units.ensures.same (c.in-Err.ensures.fault facts steady))
+
+pub returns-in-Err-clause-of_lot : goal.returns-in-Err-clause-of_lot
+returns-in-Err-clause-of_lot g c =
+    subst (λ (p : PlanFacts). IsOfFiles (files_of (dealt c.args.lots c.args.number p.units)) c.in-Err.error)
+    c.in_ok-units.ensures.same c.in-Err.ensures.of_lot
 
 pub returns-in-Err-clause-gave : goal.returns-in-Err-clause-gave
 returns-in-Err-clause-gave g c =
@@ -67,39 +70,46 @@ returns-clause-made g c = λ facts contents steady fit same.
     let number = c.args.number in
     let row = c.in-Ok.row in
     let plan = plan_of_text (text_of_listing c.args.listing.now) in
-    let both = subst (λ (ls : List ℕ). map length contents ≡ ls → AreSameAt contents (contents_in facts (length ls))
-    (dealt lots number plan.units) → IsRowOf plan contents (dealt lots number plan.units) row.hashes.items row.pieces.items
-    × (own_fault facts ls (dealt lots number plan.units) ≡ None))
+    let own = subst (λ (ls : List ℕ). map length contents ≡ ls → AreSameAt contents (contents_in facts (length ls))
+    (dealt lots number plan.units) → IsRowOf plan contents (dealt lots number plan.units) row.hashes.items
+    row.pieces.items)
     c.in_ok-units.ensures.lengths
     (subst (λ (p : PlanFacts). map length contents ≡ c.in_ok-units.units.lengths
     → AreSameAt contents (contents_in facts (length c.in_ok-units.units.lengths)) (dealt lots number p.units)
-    → IsRowOf p contents (dealt lots number p.units) row.hashes.items row.pieces.items
-    × (own_fault facts c.in_ok-units.units.lengths (dealt lots number p.units) ≡ None))
+    → IsRowOf p contents (dealt lots number p.units) row.hashes.items row.pieces.items)
     c.in_ok-units.ensures.same (c.in-Ok.ensures.summed facts contents steady)) fit same in
-    let written = c.in_ok-bytes.ensures in (
-      record {
-        facts = record {
-          number = number;
-          lots = lots;
-          plan = c.in_ok-digest.digest;
-          hashes = row.hashes.items;
-          pieces = row.pieces.items;
-        };
-        lawful = record {
-          number = c.requires.within;
-          lots = c.requires.most;
-          pieces = whole_sums plan contents (dealt lots number plan.units) row.hashes.items row.pieces.items both.0;
-          plan = written.hashes.0;
-          hashes = written.hashes.1;
-        };
-        spelled = written.written;
-        numbered = refl;
-        counted = refl;
-        planned = c.in_ok-digest.ensures;
-        row = both.0;
-      },
-      both.1,
-    )
+    let written = c.in_ok-bytes.ensures in
+    record {
+      facts = record {
+        number = number;
+        lots = lots;
+        plan = c.in_ok-digest.digest;
+        hashes = row.hashes.items;
+        pieces = row.pieces.items;
+      };
+      lawful = record {
+        number = c.requires.within;
+        lots = c.requires.most;
+        pieces = whole_sums plan contents (dealt lots number plan.units) row.hashes.items row.pieces.items own;
+        plan = written.hashes.0;
+        hashes = written.hashes.1;
+      };
+      spelled = written.written;
+      numbered = refl;
+      counted = refl;
+      planned = c.in_ok-digest.ensures;
+      row = own;
+    }
+
+pub returns-clause-fault : goal.returns-clause-fault
+returns-clause-fault g c = λ facts steady.
+    let lots = c.args.lots in
+    let number = c.args.number in
+    let plan = plan_of_text (text_of_listing c.args.listing.now) in
+    subst (λ (ls : List ℕ). own_fault facts ls (dealt lots number plan.units) ≡ None)
+    c.in_ok-units.ensures.lengths
+    (subst (λ (p : PlanFacts). own_fault facts c.in_ok-units.units.lengths (dealt lots number p.units) ≡ None)
+    c.in_ok-units.ensures.same (c.in-Ok.ensures.fault facts steady))
 
 pub returns-clause-whole : goal.returns-clause-whole
 returns-clause-whole g c =

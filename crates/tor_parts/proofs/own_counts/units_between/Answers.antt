@@ -3,10 +3,10 @@ use Rattle.std.proofs.Common.{◌∙◌, ◌≤◌, ◌-◌, ◌^◌, ℕ, zero,
 use Rattle.std.proofs.lemmas.List.{length-take-le, length-drop}
 use Rattle.std.proofs.lemmas.List.Elements.{All-from_recursion, recursion_from_All}
 use Rattle.std.specs.List.{All, AllByRecursion}
-use Rattle.tor_parts.specs.steps.OwnFiles.{AreFilesOf}
+use Rattle.tor_engine.specs.Rows.{AreInFiles}
 use Rattle.tor_parts.proofs.PlanUnits.{small_units, units_in_files}
 use Rattle.tor_plan.proofs.ProvedLaws.{units_are_few}
-use Rattle.tor_plan.specs.WithinEntries.{unit_length}
+use Rattle.tor_plan.specs.WithinEntries.{IsInFile, unit_length}
 use Rattle.tor_plan.specs.declared.units.PlanUnit.{PlanUnit}
 use Rattle.tor_parts.proofs.own_counts.units_between.Goals as goal
 
@@ -30,9 +30,9 @@ returns-clause-in_files c =
     let plan = c.args.plan.now in
     let same = c.split_at-2.ensures.front ∙ ap (take (c.args.to - c.args.from)) (c.split_at.ensures.back
     ∙ ap (drop c.args.from) c.units.ensures.value) in
-    subst (λ (units : List PlanUnit). All (λ unit. AreFilesOf plan.lengths unit.parts) units) (sym same)
-    (cut (λ (unit : PlanUnit). AreFilesOf plan.lengths unit.parts) c.args.from c.args.to plan.units
-    (λ k d there i part within. (units_in_files plan c.units.ensures.planned k d there i part within).named))
+    subst (λ (units : List PlanUnit). AreInFiles plan.lengths units) (sym same)
+    (cut (λ (unit : PlanUnit). All (IsInFile plan.lengths) unit.parts) c.args.from c.args.to plan.units
+    (units_in_files plan c.units.ensures.planned))
 
 pub returns-clause-small : goal.returns-clause-small
 returns-clause-small c =

@@ -1,11 +1,12 @@
 -- one unit more
 use Rattle.std.proofs.Common.{◌≡◌, ◌∙◌, ℕ, List, None, Some, add-one, ap, get_or, map, refl, subst, sym, take}
-use Rattle.std.specs.List.{flat_map, slice_index}
-use Rattle.tor_parts.specs.OwnFiles.{HasToldOf, planned_fault}
+use Rattle.std.specs.List.{All, Contains, flat_map, slice_index}
+use Rattle.tor_parts.specs.OwnFiles.{HasToldOf, files_of, planned_fault}
 use Rattle.tor_sums.specs.Fault.{first_of}
 use Rattle.tor_plan.specs.declared.units.Part.{Part}
 use Rattle.tor_plan.specs.declared.units.PlanUnit.{PlanUnit}
 use Rattle.tor_parts.proofs.FirstFaults.{all_more, found_at, none_more}
+use Rattle.tor_parts.proofs.OwnErrors.{files_are_own}
 use Rattle.tor_parts.proofs.own_files.expect_own.Goals as goal
 
 pub units-init : goal.units-init
@@ -25,6 +26,16 @@ returns-in-Err-clause-steady g c = λ facts steady.
     let found = subst (λ (parts : List Part). first_of f (map (λ part. part.file) parts) ≡ Some c.in-Err.error) same
     (c.in-Err.ensures.steady facts steady so_far.0) in
     found_at f files_in c.args.units.now c.units.unit-index unit c.in-Err.error c.units-test.true so_far.1 found
+
+pub returns-in-Err-clause-of_files : goal.returns-in-Err-clause-of_files
+returns-in-Err-clause-of_files g c =
+    let units = c.args.units.now in
+    let unit = c.unit-item.result in
+    let same : (get_or units c.units.unit-index unit).parts ≡ c.as_slice.result.now =
+    sym (c.as_slice.ensures ∙ ap (λ (unit : PlanUnit). unit.parts) c.unit-item.is) in
+    c.in-Err.ensures.of_files (files_of units)
+    (subst (λ (parts : List Part). All (λ part. Contains (files_of units) part.file) parts) same
+    (files_are_own units c.units.unit-index unit c.units-test.true))
 
 pub units-preserved : goal.units-preserved
 units-preserved g c =

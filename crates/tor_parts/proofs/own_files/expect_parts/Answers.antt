@@ -18,6 +18,10 @@ returns-in-Err-clause-steady g c = λ facts steady asked.
     found_next (planned_fault facts c.args.lengths.now) (λ part. part.file) c.args.parts.now c.parts.part-index _
     c.in-Err.error c.parts-test.true so_far.1 found
 
+pub returns-in-Err-clause-of_files : goal.returns-in-Err-clause-of_files
+returns-in-Err-clause-of_files g c = λ files own.
+    c.in-Err.ensures.of_files files (own c.parts.part-index _ c.parts-test.true)
+
 pub parts-preserved : goal.parts-preserved
 parts-preserved g c =
     let parts = c.args.parts.now in
