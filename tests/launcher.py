@@ -987,6 +987,128 @@ def test_install(program, folder):
     expect_equal('its bytes', b'of another', (prefix / 'bin' / 'tor').read_bytes())
 
 
+def tree_below(folder):
+    """What is below a folder: folders, and what files have and links lead to."""
+    return {str(path.relative_to(folder)):
+            os.readlink(path) if path.is_symlink() else path.is_dir() or path.read_bytes() for path in folder.rglob('*')}
+
+
+# Plants a link to a file of another beside each place, as the number of the process is known that then installs.
+PLANT = """
+for place in $PLACES; do
+    mkdir -p "$PREFIX/${place%/*}"
+    ln -s "$PREFIX/../victim" "$PREFIX/$place.new.$$"
+done
+exec "$@"
+"""
+
+
+def test_install_writes_through_no_link(program, folder):
+    """Links beside the places stay, and what they lead to; of folders that it made beside them none is left. By each
+    shell that is here."""
+    clone, prefix, victim = Clone(folder, Path(program).read_bytes()), folder / 'prefix', folder / 'victim'
+    victim.write_bytes(b'of another')
+    places = [*PLACES, 'share/plovercasket/installed']
+    variables = {'PREFIX': str(prefix), 'PLACES': ' '.join(places)}
+    lines = ''.join(f'{prefix}/{place}\n' for place in PLACES).encode()
+    clone.run('tor', '--version')
+    for by in [(), *shells(folder)]:
+        clone.expect(Told(0, lines, b''), 'dist/install', str(prefix), by=('sh', '-c', PLANT, 'sh', *by),
+                     environment=variables)
+        expect_equal('the program', True, (prefix / 'bin/tor').read_bytes() == Path(program).read_bytes())
+        expect_equal('the rights of the program and of the others', [0o755, *[0o644] * 5],
+                     [(prefix / place).stat().st_mode & 0o7777 for place in places])
+        expect_equal('what the links lead to', (b'of another', 0o644),
+                     (victim.read_bytes(), victim.stat().st_mode & 0o7777))
+        links = {place: target for place, target in tree_below(prefix).items() if isinstance(target, str)}
+        expect_equal('the links', [str(prefix / '../victim')] * 6, list(links.values()))
+        files = {place for place, content in tree_below(prefix).items() if content is not True}
+        expect_equal('what is left', {*places, *links}, files)
+        expect_equal('folders that were made aside', [], list(prefix.rglob('.*')))
+        shutil.rmtree(prefix)
+
+
+# Another has put a link in place of the folder that was just made.
+LINKING = """#!/bin/sh
+made=$(%s "$@") || exit
+case $made in */.installing.*) rmdir "$made" && ln -s %s "$made" ;; esac
+echo "$made"
+"""
+
+
+def test_install_into_no_folder_of_another(program, folder):
+    """If the folder in which it writes was exchanged, nothing is written: neither in a folder that others can write,
+    nor over what is there."""
+    clone, prefix, other = Clone(folder, Path(program).read_bytes()), folder / 'prefix', folder / 'other'
+    (folder / 'commands').mkdir()
+    (folder / 'commands/mktemp').write_text(LINKING % (shutil.which('mktemp'), other))
+    (folder / 'commands/mktemp').chmod(0o755)
+    told = Told(1, b'', f'install: {prefix}/bin/tor cannot be written\n'.encode())
+    for mode, files in (0o777, []), (0o755, ['file']):
+        other.mkdir()
+        for name in files:
+            (other / name).write_bytes(b'of another')
+        other.chmod(mode)
+        before = tree_below(other)
+        clone.expect(told, 'dist/install', str(prefix), path=folder / 'commands')
+        expect_equal('what the other has', before, tree_below(other))
+        expect_equal('what is left', {'bin': True}, tree_below(prefix))
+        shutil.rmtree(other)
+
+
+def test_install_over_links(program, folder):
+    """A link at a place is one of another, and a record that is one tells nothing of what it leads to."""
+    clone, prefix, victim = Clone(folder, Path(program).read_bytes()), folder / 'prefix', folder / 'victim'
+    (prefix / 'bin').mkdir(parents=True)
+    (prefix / 'share/plovercasket').mkdir(parents=True)
+    victim.write_bytes(b'of another\n')
+    for target, told in [(victim, 'is there, and was not put there by dist/install'), (folder, 'is a folder'),
+                         (folder / 'absent', 'is there, and was not put there by dist/install')]:
+        (prefix / 'bin/tor').symlink_to(target)
+        clone.expect(Told(1, b'', f'install: {prefix}/bin/tor {told}\n'.encode()), 'dist/install', str(prefix))
+        expect_equal('the link', str(target), os.readlink(prefix / 'bin/tor'))
+        (prefix / 'bin/tor').unlink()
+    record = prefix / 'share/plovercasket/installed'
+    record.symlink_to(victim)
+    told = Told(1, b'', f'install: {record} is a link, which dist/install does not make\n'.encode())
+    for words in [], ['--remove']:
+        clone.expect(told, 'dist/install', *words, str(prefix))
+    expect_equal('what is there', {'share/plovercasket/installed'},
+                 {place for place, content in tree_below(prefix).items() if content is not True})
+    expect_equal('what it leads to', b'of another\n', victim.read_bytes())
+
+
+# A script, words that it does not take, and what it tells of them.
+WORDS = [('dist/install', ['--foo'], "install: unexpected option '--foo'"),
+         ('dist/install', ['a', 'b'], "install: unexpected argument 'b'"),
+         ('dist/package', ['--foo'], "package: unexpected argument '--foo'"),
+         ('dist/package', ['a', 'b'], "package: unexpected argument 'b'"),
+         ('dist/make', ['--foo'], "make: unexpected option '--foo'"),
+         ('dist/make', ['a', 'b'], "make: unexpected argument 'b'"),
+         ('dist/make', ['--check'], 'make: a tree is to follow --check'),
+         ('dist/make', ['--check', 'a', 'b', 'c'], "make: unexpected argument 'c'"),
+         ('wrong/run', ['--foo'], "run: no crate '--foo' has wrong bodies"),
+         ('wrong/run', ['tests', '0'], 'wrong/run tests: error: no such build: 0'),
+         ('wrong/run', ['--together', 'a'], 'wrong/run --together: error: no such edits: a'),
+         ('wrong/run', ['--compiles', 'a'], 'wrong/run --compiles: error: no such crate: a'),
+         ('tests/run', ['--foo'], 'run: error: unrecognized arguments: --foo'),
+         ('tests/run', ['absent'], "run: no test 'absent'")]
+
+
+def test_words_of_scripts(_, folder):
+    """Each prints a line of usage, and refuses other words; no file is made."""
+    timed = [str(place.relative_to(ROOT)) for place in (ROOT / 'bench').iterdir() if os.access(place, os.X_OK)]
+    for name in sorted({*(name for name, _, _ in WORDS), *(name for name in timed if '.' not in name)}):
+        for word in '-h', '--help':
+            done = subprocess.run([ROOT / name, word], capture_output=True, text=True, check=False, cwd=folder)
+            expect_equal(f'{name} {word}', (0, 'usage: ', ''), (done.returncode, done.stdout[:7], done.stderr))
+    for name, words, line in [*WORDS, *((name, ['--foo', 'a', 'b', 'c', 'd'], 'usage: ') for name in timed)]:
+        done = subprocess.run([ROOT / name, *words], capture_output=True, text=True, check=False, cwd=folder)
+        expect_equal(f'{name} {words}: status, output and whether that line is told', (2, '', True),
+                     (done.returncode, done.stdout, line in done.stderr))
+    expect_equal('what is left', [], os.listdir(folder))
+
+
 def test_install_as_another_name(program, folder):
     """Man page and completions have the name, but for what the program prints; two names stand beside one another, and
     each goes by itself."""
