@@ -989,8 +989,9 @@ def test_install(program, folder):
 
 def tree_below(folder):
     """What is below a folder: folders, and what files have and links lead to."""
-    return {str(path.relative_to(folder)):
-            os.readlink(path) if path.is_symlink() else path.is_dir() or path.read_bytes() for path in folder.rglob('*')}
+    def content(path):
+        return os.readlink(path) if path.is_symlink() else path.is_dir() or path.read_bytes()
+    return {str(path.relative_to(folder)): content(path) for path in folder.rglob('*')}
 
 
 # Plants a link to a file of another beside each place, as the number of the process is known that then installs.

@@ -23,6 +23,7 @@ import time
 from collections import namedtuple
 from pathlib import Path
 
+import parts
 import reference
 from hostile import BLOCK, CONTENTS, KINDS, LONG, OLD, WAYS, torrent_of
 from reference import Order, Refused, judge
@@ -249,6 +250,7 @@ def sweeps(refuser, folder):
     """All there are: the words of each, the move, and what to call."""
     yield from sweeps_of_one_pass(refuser, folder)
     yield from sweeps_of_two_passes(refuser, folder)
+    yield from parts.sweeps(refuser, folder.with_name('parts'))
 
 
 def sweeps_of_one_pass(refuser, folder):
