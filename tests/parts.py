@@ -1,10 +1,10 @@
 """What a part of a plan asks of its files, and what it answers if they move while they are hashed.
 
-No contract speaks of any of this: that the lengths of the part's own files are asked before a byte is read and once
-more after the last, that nothing is asked of another file, and that a file that is gone by then was changed and is not
-missing. So each call of the program is held in turn, and meanwhile a file is cut, grown, removed or exchanged. What has
-to come is known exactly by whether the call is before the first question for that file's length, or after the last. If
-bytes are others and the length is the same, each hash of the part is one of the file before or after.
+No contract speaks of any of this: that each of the part's own files is looked at before a byte is read, and once more
+after it was opened, that nothing is asked of another file, and that a file that is gone once it was looked at was
+changed and is not missing. So each call of the program is held in turn, and meanwhile a file is cut, grown, removed or
+exchanged. What has to come is known by whether the call is before the first upon that file, or after the last. If bytes
+are others and the length is the same, each hash of the part is one of the file before or after.
 """
 import os
 import re
@@ -14,8 +14,9 @@ from itertools import combinations, product
 from contents import content
 from faults import traced
 from reference import BLOCK, encode, sha1, sha256
-from refuser import ALL_LATER, Meet, Refuser
-from support import Failure, Skipped, Told, done, expect, expect_equal, expect_told, refused, shown, shown_words
+from refuser import ALL_LATER, Meet, Met, Refuser
+from support import (
+    Failure, Skipped, Told, done, expect, expect_equal, expect_told, refused, run, shown, shown_words)
 
 # The files of the plan. In units of a piece, the second of two parts begins within the second file, and has what comes
 # after that; an empty file is no part's.
@@ -33,10 +34,10 @@ WAYS = [('one', 1), ('halves', 2), ('board', 2)]
 # A file is asked for by its place, and not by what is open.
 NO_FOLDER = -100
 
-# What is done with a file: its name, how, what is told if its length is asked afterwards for the first time, and what
-# if that was asked before (nothing if its length stays); and which kinds of calls are held. If it was there when it was
-# looked at, and is not when it is opened, that is a fault of its bytes.
-Move = namedtuple('Move', 'name act before between kinds', defaults=('E2 Changed', 'E2 Changed', 'sor'))
+# What is done with a file: its name, how, what may be told if it is looked at afterwards for the first time, and what
+# if it was looked at before; and which kinds of calls are held. Where nothing may be told its bytes are hashed. If a
+# file was there when it was looked at, and is not when it is opened, that may be a fault of its bytes.
+Move = namedtuple('Move', 'name act before between kinds', defaults=(['E2 Changed'], ['E2 Changed'], 'sor'))
 
 
 def grown(place):
@@ -101,21 +102,27 @@ def other_of(content):
     return content[1:] + content[:1]
 
 
-REMOVED = Move('a file is removed', removed, 'E3 Missing')
+REMOVED = Move('a file is removed', removed, ['E3 Missing'])
 GROWN = Move('a file grows', grown)
 CUT = Move('a file is cut', cut)
-LINKED = Move('a file becomes a link to itself', as_link_to_itself, 'E1 Read', 'E1 Read')
-EXCHANGED = Move('a file is exchanged for one as long', exchanged_for_one_as_long, None, None)
-REWRITTEN = Move('a file is rewritten', rewritten, None, None)
+# Whether it is followed, which is a fault, is not said.
+LINKED = Move('a file becomes a link to itself', as_link_to_itself, ['E1 Read', 'E3 Missing'],
+              ['E1 Read', 'E2 Changed'])
+EXCHANGED = Move('a file is exchanged for one as long', exchanged_for_one_as_long, [], ['E2 Changed'])
+REWRITTEN = Move('a file is rewritten', rewritten, [], [])
 MOVES = [
     REMOVED, GROWN, CUT, LINKED, EXCHANGED, REWRITTEN, Move('a file is emptied', emptied),
     Move('a file is exchanged for a longer one', exchanged_for_a_longer_one),
     Move('a file is exchanged for a shorter one', exchanged_for_a_shorter_one),
-    Move('a file becomes a folder', as_folder, 'E3 Missing'),
+    Move('a file becomes a folder', as_folder, ['E3 Missing']),
     # Once it was looked at, to open a FIFO waits until somebody writes into it.
-    Move('a file becomes a FIFO', as_fifo, 'E3 Missing', kinds='s')]
+    Move('a file becomes a FIFO', as_fifo, ['E3 Missing'], kinds='s')]
 
 
+# A call that names a place, as strace tells it.
+CALLS = re.compile(r'^(\w+)\([^"\n]*"([^"\n]*)"', re.M)
+# These change the file itself, and not what is at its place.
+WRITES = [grown, cut, emptied, rewritten]
 # After these no such file is there.
 NOT_THERE = [removed, as_folder, as_link_to_itself]
 
@@ -169,57 +176,44 @@ def sums_of(kind, contents):
     return [sha256(block) for block in pieces], [sha1(block) for block in padded] if kind == 'hybrid' else []
 
 
-def calls_of(refuser, scene, words):
-    """The calls upon the files of the plan, in order, each with its number among all."""
+def number_of(met):
+    """The number of the file that a call is upon, by its place or one below an open folder; None of anything else."""
+    name = os.path.basename(met.place)
+    return next((number for number, (path, _) in enumerate(FILES) if os.path.basename(path) == name), None)
+
+
+def files_of(refuser, scene, words):
+    """The numbers of the files that are asked for: before the first byte of one is read, in all, and once more after
+    they were opened for the last time."""
     ended = refuser.run(words, Meet('sorl', 1, ALL_LATER, 'tell'))
     expect_equal(f'{words}: status and standard error', (0, b''), (ended.status, ended.err))
-    below = f'{scene.place}/'
-    return [(number, met) for number, met in enumerate(ended.met, 1) if met.place.startswith(below)]
-
-
-def is_asked(met, place):
-    return (met.kind, met.file, met.place) == ('s', NO_FOLDER, str(place))
-
-
-def asked_of(calls, scene):
-    """The numbers of the files whose lengths are asked before anything else, and those asked after the last read."""
-    places = {str(scene.at(number)): number for number, _ in enumerate(FILES)}
-    kinds = ''.join(met.kind for _, met in calls)
-    first = len(kinds) - len(kinds.lstrip('s'))
-    # Before it is opened, the file that is read first is asked what it is.
-    head = [places[met.place] for _, met in calls[:first - 1]]
-    tail = [places[met.place] for _, met in calls[kinds.rindex('r') + 1:]]
-    return head, tail
+    calls = [(met.kind, number_of(met)) for met in ended.met if number_of(met) is not None]
+    kinds = {number: ''.join(kind for kind, other in calls if other == number) for _, number in calls}
+    first = next((at for at, (kind, _) in enumerate(calls) if kind == 'r'), 0)
+    again = [number for number, of_file in kinds.items() if 's' in of_file[of_file.rfind('o') + 1:]]
+    return [sorted(numbers) for numbers in ({number for _, number in calls[:first]}, kinds, again)]
 
 
 def test_what_is_asked(program, folder):
-    """The lengths of the part's own files are asked in order, before the first byte is read and after the last. Nothing
-    is asked of another file."""
+    """Each of the part's own files is looked at before the first byte is read, and once more when it is open for the
+    last time, or afterwards. Nothing is asked of another file."""
     refuser = Refuser(program, folder)
     for kind in KINDS:
         scene = Scene(folder, kind)
-        for how, workers in [('one', 1), ('halves', 1), ('halves', 2), ('halves', 5), ('board', 2), ('board', 5)]:
-            words = scene.words((how, workers))
+        for way in [('one', 1), ('halves', 1), ('halves', 2), ('halves', 5), ('board', 2), ('board', 5)]:
+            words = scene.words(way)
             expect(program, words, done(scene.right()))
-            calls = calls_of(refuser, scene, words)
-            expect_equal(f'{kind}, {how} of {workers}: what is asked of', {str(scene.at(number)) for number in OWN},
-                         {met.place for _, met in calls})
-            expect_equal(f'{kind}, {how} of {workers}: whose lengths are asked before and afterwards', (OWN, OWN),
-                         asked_of(calls, scene))
+            expect_equal(f'{words}: which files are asked for, at first, in all and once more', [OWN] * 3,
+                         files_of(refuser, scene, words))
 
 
 def test_what_other_parts_ask(program, folder):
-    """Of a part whose bytes are all of one file that one alone is asked, once before and once after; of one that has no
-    byte none is."""
+    """Of a part whose bytes are all of one file that one alone is asked for; of one that has no byte none is."""
     refuser = Refuser(program, folder)
     for kind, part, own in PARTS:
         scene = Scene(folder, kind)
-        calls = calls_of(refuser, scene, scene.words(part=part))
-        what = f'{kind}, {part}'
-        expect_equal(f'{what}: what is asked of', {str(scene.at(number)) for number in own},
-                     {met.place for _, met in calls})
-        if own:
-            expect_equal(f'{what}: whose lengths are asked before and afterwards', (own, own), asked_of(calls, scene))
+        expect_equal(f'{kind}, {part}: which files are asked for, at first, in all and once more', [own] * 3,
+                     files_of(refuser, scene, scene.words(part=part)))
 
 
 def test_no_call_names_another_file(program, folder):
@@ -233,12 +227,12 @@ def test_no_call_names_another_file(program, folder):
             told, log = traced(program, words, None, [], folder / 'log', trace='file,desc')
             expect_equal(f'{words}: how it ends', done(), told)
             expect_equal(f'{words}: the part', scene.right(), out.read_bytes())
-            named = Counter(re.findall(rf'^(\w+)\(.*"{re.escape(str(scene.place))}/([^"]*)"', log, re.M))
-            if not any(call.startswith('open') for call, _ in named):
-                raise Skipped('strace tells of no file that is opened')
-            others = {pair for pair in named if pair[1] not in [FILES[number][0] for number in OWN]}
-            asked = {('statx', FILES[number][0]) for number in NOT_OWN}
-            expect_equal(f'{words}: calls that name other files', asked if is_there else set(), others)
+            named = {(call, number_of(Met('', 0, 0, place))) for call, place in CALLS.findall(log)}
+            if not {('openat', number) for number in OWN} <= named:
+                raise Skipped('strace does not tell of the files that are opened')
+            others = {pair for pair in named if pair[1] in NOT_OWN}
+            asked = {('statx', number) for number in NOT_OWN} if is_there else set()
+            expect_equal(f'{words}: calls upon other files, but for some', set(), others - asked)
 
 
 def sweep(refuser, scene, way, number, move):
@@ -247,11 +241,14 @@ def sweep(refuser, scene, way, number, move):
     scene.lay_out()
     # Of all calls of these kinds, with those upon the plan.
     met = refuser.run(words, Meet(move.kinds, 1, ALL_LATER, 'tell')).met
-    asks = [at for at, one in enumerate(met, 1) if is_asked(one, place)]
+    calls = [(at, one.file) for at, one in enumerate(met, 1) if number_of(one) == number]
+    (first, _), *_, (last, _) = calls
+    # From here on it is open, and its place is not asked for any more.
+    opened = max(at for at, file in calls if file == NO_FOLDER)
     counts, call, faults = Counter(), 0, 0
     for came in refuser.each(words, Meet(move.kinds, does='hold'), act=lambda _: move.act(place), before=scene.lay_out):
         call += 1
-        when = 'before' if call <= asks[0] else 'between' if call <= asks[-1] else 'after'
+        when = 'before' if call <= first else 'between' if call <= opened else 'open' if call <= last else 'after'
         fault = fault_of(scene, way, number, move, when, came)
         if fault:
             raise Failure(f'run     {shown_words(words)}\nfile {number}: {move.name}, {when}, at {came.met}: {fault}\n'
@@ -266,17 +263,22 @@ def sweep(refuser, scene, way, number, move):
 
 def fault_of(scene, way, number, move, when, came):
     """What is wrong with how a run ended; None if nothing is."""
-    told = Told(*came[:3])
-    if when == 'after':
-        return None if told == done(scene.right()) else 'another part, whose bytes were all read before'
-    line = move.before if when == 'before' else move.between
-    if not line:
-        return fault_of_bytes(scene, way, number, when, told)
-    wanted = [line]
-    # It was looked at before, and is opened when it is not there; of several workers, by one whose call is not held.
-    is_opened = way[0] != 'one' or (came.met[0].kind, came.met[0].place) == ('o', str(scene.at(number)))
-    if when == 'between' and is_opened and move.act in NOT_THERE:
-        wanted.append('E1 Read')
+    told, is_for_one = Told(*came[:3]), way[0] == 'one'
+    is_right = told == done(scene.right())
+    # An open file is read, whatever is at its place; and its bytes, if it was looked at. Several workers call in no one
+    # order.
+    is_read = when == 'open' and (move.act not in WRITES or came.met[0].kind == 'r')
+    if is_right and (when == 'after' or is_read or not is_for_one):
+        return None
+    if when == 'after' and is_for_one:
+        return 'another part, whose bytes were all read before'
+    lines = move.before if when == 'before' else move.between
+    if not told.status:
+        may_be_read = not lines or (move is EXCHANGED and when != 'before')
+        return fault_of_bytes(scene, way, number, when, told) if may_be_read else f'it is not {lines}'
+    # It was looked at before, and is opened when it is not there.
+    is_opened = not is_for_one or (came.met[0].kind, number_of(came.met[0])) == ('o', number)
+    wanted = lines + ['E1 Read'] * (when != 'before' and is_opened and move.act in NOT_THERE)
     lines = [rf'{re.escape(one)} file {number}' + r' at (length|[0-9]+)' * (one == 'E1 Read') for one in wanted]
     is_told = any(re.fullmatch(f'tor: {one}\n'.encode(), told.err) for one in lines)
     return None if is_told and told.status == 3 and not told.out else f'it is not {wanted}'
@@ -340,8 +342,8 @@ def test_a_file_of_another_part_that_moves(program, folder):
             expect_equal(f'file {number}: {move.name}, at {came.met}', done(scene.right()), Told(*came[:3]))
 
 
-def line_of(line, number):
-    return f'{line} file {number}' + ' at length' * line.startswith('E1')
+def lines_of(lines, number):
+    return [refused(f'{line} file {number}' + ' at length' * line.startswith('E1'), 3) for line in lines]
 
 
 def test_the_first_of_two_files(program, folder):
@@ -352,27 +354,37 @@ def test_the_first_of_two_files(program, folder):
         scene.lay_out()
         one.act(scene.at(first))
         other.act(scene.at(second))
-        expect(program, scene.words(way), refused(line_of(one.before, first), 3),
-               note=f'{first}: {one.name}, {second}: {other.name}\n')
+        expect_one_of(f'{first}: {one.name}, {second}: {other.name}', lines_of(one.before, first),
+                      run(program, scene.words(way)))
+
+
+def expect_one_of(what, wanted, told):
+    if told not in wanted:
+        either = '\nor      '.join(map(shown, wanted))
+        raise Failure(f'{what}\nwanted  {either}\ncame    {shown(told)}')
 
 
 def test_the_first_of_two_files_afterwards(program, folder):
-    """Two files move once all is read: the first in the order of the plan is told, and as changed if it is gone."""
+    """Two files move once all is read. If their lengths are asked once more, the first in the order of the plan is
+    told, and as changed if it is gone."""
     refuser = Refuser(program, folder)
     moves = [REMOVED, GROWN, CUT, LINKED]
     for kind, way in [('v2', ('one', 1)), ('v1', ('board', 2))]:
         scene = Scene(folder, kind)
-        calls = [number for number, _ in calls_of(refuser, scene, scene.words(way))]
+        scene.lay_out()
+        met = refuser.run(scene.words(way), Meet('sorl', 1, ALL_LATER, 'tell')).met
+        last = max(at for at, one in enumerate(met, 1) if one.kind == 'r' and number_of(one) is not None)
+        if last == len(met):
+            continue
         for (first, second), (one, other) in product(combinations(OWN, 2), product(moves, repeat=2)):
             scene.lay_out()
 
             def act(_met):
                 one.act(scene.at(first))
                 other.act(scene.at(second))
-            # The first of the three last questions.
-            came = refuser.run(scene.words(way), Meet('sorl', calls[-3], calls[-3], 'hold'), act=act)
-            expect_equal(f'{first}: {one.name}, {second}: {other.name}', refused(line_of(one.between, first), 3),
-                         Told(*came[:3]))
+            came = refuser.run(scene.words(way), Meet('sorl', last + 1, last + 1, 'hold'), act=act)
+            expect_one_of(f'{first}: {one.name}, {second}: {other.name}',
+                          [done(scene.right()), *lines_of(one.between, first)], Told(*came[:3]))
 
 
 def test_a_length_before_a_byte(program, folder):
@@ -384,7 +396,7 @@ def test_a_length_before_a_byte(program, folder):
         scene.lay_out()
         move.act(scene.at(4))
         told, calls = traced(program, words, scene.at(1), failing, log)
-        expect_told(words, refused(line_of(move.before, 4), 3), told, f'{move.name}\n')
+        expect_one_of(move.name, lines_of(move.before, 4), told)
         expect_equal(f'{move.name}: whether a byte is read', False, 'pread64' in calls)
     scene.lay_out()
     told, _ = traced(program, words, scene.at(1), failing, log)
