@@ -7,7 +7,7 @@ import resource
 import reference
 from reference import BLOCK, encode, root_of, sha256
 from refuser import ALL_LATER, Meet, Refuser
-from support import done, expect, expect_equal
+from support import Failure, done, expect, expect_equal, shown_words
 
 
 def limited(kibibytes):
@@ -61,6 +61,28 @@ def test_files_below_deep_folders(program, folder):
     for _ in range(95):
         tree = {b'a': tree}
     expect_nothing_there(program, folder, in_tree(tree), 0, [([], 90_000), (['--keep-going'], 90_000)])
+
+
+def test_folders_below_deep_folders(program, folder):
+    """60 folders with a folder in each, below 700 others, one in the other: each question to the system names few
+    folders, however deep it is asked."""
+    top = os.getcwd()
+    place = folder / 'deep'
+    place.mkdir()
+    os.chdir(place)
+    for _ in range(700):
+        os.mkdir('d')
+        os.chdir('d')
+    for number in range(60):
+        os.makedirs(f'{number}/e')
+    os.chdir(top)
+    words = ['make', '--name', 'f', str(place)]
+    ended = Refuser(program, folder).run(words, Meet('so', 1, ALL_LATER, 'tell'))
+    expect_equal('the answer', (1, b'', b'tor: L4 NoFiles\n'), ended[:3])
+    # What is open is asked by its descriptor.
+    most = max(met.place.count('/') for met in ended.met if met.file == -100)
+    if most > 20 + str(place).count('/'):
+        raise Failure(f'{shown_words(words)}: a question with {most} components')
 
 
 def expect_opens(program, folder, count, rows):

@@ -11,7 +11,7 @@ from collections import namedtuple
 
 from reference import BLOCK
 from rows import ABC, FOLDER_HYBRID
-from support import Failure, Skipped, Told, done, expect_equal, expect_told, refused
+from support import Failure, Skipped, Told, done, expect_equal, expect_told, refused, run
 
 READ = re.compile(r'pread64\(\d+, .*?, (\d+), (\d+)\) += (-?\d+)')
 # A call upon a file, which is named by its place, or by its descriptor, behind which `strace -y` tells the place.
@@ -70,12 +70,14 @@ FOUND = 8
 
 
 def test_of_make(program, folder):
-    """Of a file below PATH the system is asked as it is found, and before each read, once it is open. Calls are counted
-    for each thread: by one worker, both questions are of one thread."""
+    """Of a file below PATH the system is asked at each read, before it is opened and once it is. (It is found by the
+    folder that is held open, and not by this place.) Calls are counted for each thread: by one worker, both questions
+    are of one thread."""
     files = lay_out(folder)
     errors = ['EIO', 'EACCES', 'ETIMEDOUT', 'EAGAIN', 'EINTR', 'ELOOP', 'EPERM', 'ENOENT']
-    asked = [(f'statx:error={error}:when={when}', line)
-             for when, line in [(1, 'F4 System'), (2, 'E1 Read file 1 at 0')] for error in errors]
+    asked = [(f'statx:error={error}:when={when}', 'E1 Read file 1 at 0')
+             for when in (1, 2) for error in errors if error != 'ENOENT']
+    asked += [(f'statx:error=ENOENT:when={when}', 'E2 Changed file 1') for when in (1, 2)]
     rows = [(f'pread64:error={error}:when=1', 'E1 Read file 1 at 0')
              for error in ['EIO', 'EAGAIN', 'EINTR', 'ETIMEDOUT', 'EISDIR']]
     rows += [(f'openat:error={error}:when=1', 'E1 Read file 1 at 0') for error in ['EACCES', 'EMFILE', 'ETIMEDOUT']]
@@ -118,9 +120,8 @@ def test_of_streams(program, folder):
     """A file that is read once is opened when its turn comes: what cannot be, and what cannot be read, is told with how
     much of it came."""
     files = lay_out(folder)
-    rows = [(f'statx:error={error}:when={when}', line)
-            for when, line in [(1, 'F4 System'), (2, 'E1 Read file 1 at 0')]
-            for error in ['EIO', 'EACCES', 'ENOENT', 'ENOTDIR', 'ETIMEDOUT', 'EINTR', 'ELOOP']]
+    rows = [(f'statx:error={error}:when={when}', 'E1 Read file 1 at 0')
+            for when in (1, 2) for error in ['EIO', 'EACCES', 'ENOENT', 'ENOTDIR', 'ETIMEDOUT', 'EINTR', 'ELOOP']]
     rows += [(f'openat:error={error}:when=1', 'E1 Read file 1 at 0')
              for error in ['EACCES', 'EMFILE', 'ENOENT', 'ETIMEDOUT']]
     rows += [(f'read:error={error}:when={when}', f'E1 Read file 1 at {when - 1}')
@@ -159,12 +160,9 @@ def calls_upon(folder):
 
 
 def expect_read_once(words, calls, lengths, opened):
-    """That one question found each file, and then file after file was opened, each byte of it read once, at least
-    64 KiB at a time where there are so many, and closed. `opened` has the calls that open a file: one below PATH is
-    asked what it is once it is open, a file by itself before."""
-    found, calls = calls[:len(lengths)], calls[len(lengths):]
-    expect_equal(f'{words}: what found the files', [('statx', name) for name in lengths],
-                 [(call.name, call.file) for call in found])
+    """That file after file was opened, each byte of it read once, at least 64 KiB at a time where there are so many,
+    and closed. `opened` has the calls that open a file: it is asked what it is before it is opened, and one below PATH
+    once more when it is open."""
     turns = [(name, list(turn)) for name, turn in itertools.groupby(calls, lambda call: call.file)]
     expect_equal(f'{words}: the turns of files', list(lengths), [name for name, _ in turns])
     for name, turn in turns:
@@ -187,8 +185,9 @@ def expect_streams(program, folder, lengths, path):
         expect_equal(f'{words}: status', 0, told.status)
         threads = calls_upon(folder)
         expect_equal(f'{words}: threads that read', 1, len(threads))
-        expect_read_once(words, threads[0], lengths,
-                         ['statx', 'openat'] if path.is_file() else ['openat', 'statx'])
+        # PATH itself is found by its place.
+        calls = threads[0][1:] if path.is_file() else threads[0]
+        expect_read_once(words, calls, lengths, ['statx', 'openat', *['statx'] * path.is_dir()])
 
 
 def test_reads_of_a_stream(program, folder):
@@ -233,6 +232,25 @@ def test_of_out_beside_a_file(program, folder):
     expect_faults(program, folder, ['make', '--name', 'a', '--out', out, path], path, [
         (f'statx:error={error}:when=2', 'F4 System') for error in ['EACCES', 'EIO', 'ETIMEDOUT', 'EINTR']])
     expect_equal('the old file', b'old', out.read_bytes())
+
+
+def test_of_out_that_is_not_kept(program, folder):
+    """What goes to FILE is synced. A fault of that is a write fault, unless the file system cannot be asked."""
+    files = lay_out(folder)
+    plan, torrent, out = (str(folder / name) for name in ('plan', 'torrent', 'out'))
+    commands = [['make', '--name', 'f', files], ['plan', '--name', 'f', files],
+                ['make', '--plan', plan, '--part', '0/1', files], ['edit', '--announce', 'u', torrent]]
+    for words, place in [(commands[0], torrent), (commands[1], plan)]:
+        expect_equal(f'{words}: status', 0, run(program, [*map(str, words), '--out', place]).status)
+    for words in commands:
+        words = [*words, '--out', out]
+        expect_faults(program, folder, words, None, [
+            (f'fsync:error={error}:when=1', 'write fault after 0 bytes') for error in ['EIO', 'ENOSPC', 'EDQUOT']])
+        told, _ = traced(program, words, None, ['fsync:error=EINVAL:when=1'], folder / 'log')
+        expect_told([str(word) for word in words], done(), told, 'where nothing can be synced\n')
+        # The system says that it took all bytes, and has none when the file is closed.
+        expect_faults(program, folder, words, None, [
+            (f'write:retval={len(run(program, [*map(str, words[:-2])]).out)}:when=1', 'write fault after 0 bytes')])
 
 
 def test_of_recheck(program, folder):
@@ -336,7 +354,8 @@ def test_of_writes(program, folder):
     out = folder / 'out'
     words = ['make', '--name', 'a', '--piece-length', '16384', '--out', str(out), str(folder / 'abc')]
     told, log = traced(program, words, out, ['write:retval=1'], folder / 'log', trace='write')
-    expect_told(words, done(), told, 'where a write takes one byte\n')
+    # No byte is there, though the system says of each that it was taken.
+    expect_told(words, refused('write fault after 0 bytes', 3), told, 'where a write takes one byte\n')
     asked = [int(count) for count in re.findall(r'write\(\d+, .*?, (\d+)\) += 1', log)]
     if sum(asked[:1]) < 158 or asked != sorted(asked, reverse=True) or asked[-1] != 1:
         raise Failure(f'wanted writes of 158, 157, .. 1 bytes, came {asked}')
@@ -370,14 +389,14 @@ def test_places_of_reads(program, folder):
 
 
 def test_what_is_asked_before_a_refusal(program, folder):
-    """A refusal of the order comes before a file is opened: it was asked what it is, once, to find it."""
+    """A refusal of the order comes before a file is opened. It was found by the folder that is held open."""
     files = lay_out(folder)
     for words in [['--piece-length', '5'], ['--how', 'halves', '--workers', '65'], ['--span', '3'],
                   ['--how', 'board', '--workers', '65'], ['--how', 'streams', '--workers', '65'],
                   ['--how', 'streams', '--piece-length', '1073741824']]:
         words = ['make', '--name', 'f', *words, files]
         _, log = traced(program, words, files / 'a', [], folder / 'log')
-        expect_equal(f'{words}: calls upon a file', ['statx'], [line.split('(')[0] for line in log.splitlines()])
+        expect_equal(f'{words}: calls upon a file', [], [line.split('(')[0] for line in log.splitlines()])
     words = ['make', '--name', '..', files]
     _, log = traced(program, words, files, [], folder / 'log')
     expect_equal(f'{words}: calls upon PATH', 0, len(log.splitlines()))

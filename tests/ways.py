@@ -287,7 +287,8 @@ def test_a_length_that_is_not_told(program, folder):
     expect(program, ['make', *shape, '--out', str(torrent), str(place)], done())
     (place / '007').unlink()
     (place / '007').symlink_to('007')
-    expect(program, ['make', '--plan', str(plan), '--part', '0/1', str(place)], refused('E1 Read file 7 at length', 3))
+    # A part follows no link.
+    expect(program, ['make', '--plan', str(plan), '--part', '0/1', str(place)], refused('E3 Missing file 7', 3))
     expect(program, ['recheck', str(torrent), str(place)], refused('C1 Read file 7 at length', 3))
 
 

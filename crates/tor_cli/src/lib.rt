@@ -7,8 +7,8 @@
 //! - `make.rt`: the command `make`; `scan.rt`: `scan`; `check.rt`: `check` and `magnet`; `recheck.rt`: `recheck`;
 //!   `proof.rt`: `prove` and `verify`. Each has a folder of its name, and tells what stands there.
 //! - `edit.rt`: `edit`; `lots.rt`: `plan`, `join`, and `make --plan`.
-//! - `foreign.rt`: the bytes of a file; `whole_file.rt`: a file that appears whole or not at all. `answer.rt`: yes and
-//!   no.
+//! - `foreign.rt`: the bytes of a file; `whole_file.rt`: a file that appears whole or not at all; `out_before.rt`: what
+//!   stood at FILE before. `answer.rt`: yes and no.
 //! - `progress.rt`: how far the reading is, shown on a terminal.
 //! - `text.rt`: numbers, hashes, JSON and the user's text as texts. `terminal.rt`: what a terminal is shown of names.
 //! - `fault.rt`: what stops the program, its line and its status; `fault_of.rt`: which step's fault it is;
@@ -30,6 +30,7 @@ mod foreign;
 pub mod laws;
 mod lots;
 pub mod make;
+mod out_before;
 pub mod program;
 pub mod progress;
 pub mod proof;

@@ -7,7 +7,8 @@ ghost use Rattle.tor_cli.specs.make.Request.{Sends, SendsFront};
 
 use crate::fault::Fault;
 use crate::foreign::read_file;
-use crate::make::out_file::write_file;
+use crate::make::out_file::{before_all, keep, write_file};
+use crate::out_before::OutBefore;
 use crate::unwritten::Unwritten;
 use std::alloc::{AllocError, Global};
 use std::fs::{self, File};
@@ -15,11 +16,13 @@ use std::io::{self, ErrorKind, Write};
 use std::rt::Files;
 use tor_spec::{WriteFault, write_out};
 
-/// Writes the bytes into the file `place`, which appears whole or not at all, or to `out` if there is none.
+/// Writes the bytes into the file `place`, at which this stood before, and which appears whole or not at all; or to
+/// `out` if there is none.
 pub fn send_whole<W: Write>(
     system: &HostRuntime,
     out: &mut W,
     place: Option<&str>,
+    before: &OutBefore,
     bytes: &[u8],
 ) -> Result<(), Fault>
     ensures whole { OnOk result (Sends (option_map (λ name. name.now) place.entry)
@@ -27,26 +30,32 @@ pub fn send_whole<W: Write>(
     ensures part { 0 < length bytes.now → IfErr result (IsNotSent (option_map (λ name. name.now) place.entry)
         (W.contents out.old) (W.contents out.new) bytes.now) }
 {
-    let file = whole_file(system, place)?;
+    let file = whole_file(system, place, before)?;
     Ok(send_into(system, out, &file, bytes)?)
 }
 
-/// A file, and the beginning of the name of the one beside it that is written first. There is none for what is no file,
-/// as a link, a FIFO or a device: bytes go into it as they are written.
+/// A file, what stood there before, and the beginning of the name of the one beside it that is written first. There is
+/// none for what was no file, as a link, a FIFO or a device: bytes go into it as they are written.
 #[derive(Drop)]
 struct WholeFile {
     place: String,
+    before: OutBefore,
     beside: Option<String>,
 }
 
-/// The file that the bytes are to go to; none if they go to standard output.
-fn whole_file(system: &HostRuntime, place: Option<&str>) -> Result<Option<WholeFile>, AllocError>
+/// The file that the bytes are to go to, at which this stood before; none if they go to standard output.
+fn whole_file(
+    system: &HostRuntime,
+    place: Option<&str>,
+    before: &OutBefore,
+) -> Result<Option<WholeFile>, AllocError>
     ensures { IfOk result (λ file. option_map place_of_whole file ≡ option_map (λ name. name.now) place.entry) }
 {
     match place {
         Some(place) => Ok(Some(WholeFile {
             place: String::from_str(system.alloc(), place)?,
-            beside: beside_of(system, place)?,
+            before: *before,
+            beside: beside_of(system, place, before)?,
         })),
         None => Ok(None),
     }
@@ -60,7 +69,8 @@ pub fn refuse_unmakeable(system: &HostRuntime, place: Option<&str>) -> Result<()
     let Some(place) = place else {
         return Ok(());
     };
-    let Some(beside) = beside_of(system, place)? else {
+    let before = OutBefore::at(system, Some(place));
+    let Some(beside) = beside_of(system, place, &before)? else {
         return Ok(());
     };
     match new_file(system, &beside) {
@@ -73,17 +83,18 @@ pub fn refuse_unmakeable(system: &HostRuntime, place: Option<&str>) -> Result<()
 }
 
 /// The beginning of the name of the file that is written first: it has the names of this host and this process. None if
-/// what stands at the place is no file, or a link: it is not to be replaced.
-fn beside_of(system: &HostRuntime, place: &str) -> Result<Option<String>, AllocError> {
-    let alloc = system.alloc();
-    match system.symlink_metadata(place) {
-        Ok(found) if !found.is_file() => Ok(None),
-        _ => {
-            let host = host_name(system)?;
-            let process = process_name(system)?;
-            Ok(Some(format!(in alloc; "{place}.{host}.{process}")?))
-        }
+/// what stood at the place was no file, or a link: it is not to be replaced.
+fn beside_of(
+    system: &HostRuntime,
+    place: &str,
+    before: &OutBefore,
+) -> Result<Option<String>, AllocError> {
+    if !before.is_replaceable() {
+        return Ok(None);
     }
+    let host = host_name(system)?;
+    let process = process_name(system)?;
+    Ok(Some(format!(in system.alloc(); "{place}.{host}.{process}")?))
 }
 
 /// The name of this host, as the system tells it.
@@ -133,14 +144,11 @@ fn write_whole(system: &HostRuntime, file: &WholeFile, bytes: &[u8]) -> Result<(
     ensures { IfErr result (λ fault. 0 < length bytes.now → fault.written < length bytes.now) }
 {
     let Some(beside) = &file.beside else {
-        return write_file(system, &file.place, bytes);
+        return write_file(system, &file.place, &file.before, bytes);
     };
     match write_and_rename(system, beside, &file.place, bytes) {
         Ok(()) => Ok(()),
-        Err(fault) => Err(WriteFault {
-            written: 0,
-            fault: Some(fault),
-        }),
+        Err(fault) => Err(before_all(fault)),
     }
 }
 
@@ -193,11 +201,12 @@ fn fill_and_rename(
     bytes: &[u8],
 ) -> io::Result<()> {
     let mut file = file;
-    if let Ok(old) = system.metadata(place) {
-        file.set_permissions(old.permissions())?;
+    match system.symlink_metadata(place) {
+        Ok(old) if old.is_file() => file.set_permissions(old.permissions())?,
+        _ => {}
     }
     file.write_all(bytes)?;
-    file.sync_all()?;
+    keep(system, unfinished, file, bytes.len())?;
     system.rename(unfinished, place)?;
     sync_folder_of(system, place)
 }

@@ -1,7 +1,7 @@
 -- One lot of a plan as bytes, and what all lots of a plan are joined to.
 use Rattle.std.specs.Prelude.{◌≡◌, ◌≢◌, ◌<◌, ◌*◌, ◌==◌, ℕ, List, [], ◌∷◌, length, map, take, Option, None, Some, IsSome, is_none, true, unwrap_or}
-use Rattle.std.specs.Prelude.{if◌then◌else◌, slice_index_or}
-use Rattle.std.specs.List.{AllByRecursion, filter, flat_map, range_with_len}
+use Rattle.std.specs.Prelude.{if◌then◌else◌, slice_index_or, Bool}
+use Rattle.std.specs.List.{AllByRecursion, filter, flat_map, list_any, range_with_len}
 use Rattle.tor_merkle.specs.Layer.{pieces_root}
 use Rattle.tor_bencode.specs.Spelling.{spelling}
 use Rattle.tor_meta.specs.Listing.{IsPlanRefusal, listing_refusal}
@@ -13,6 +13,7 @@ use Rattle.tor_parts.specs.LotCounts.{pieces_of_parts, pieces_of_units}
 use Rattle.tor_parts.specs.LotText.{IsLot, LotFacts, lot_bytes}
 use Rattle.tor_engine.specs.Rows.{IsRowOf}
 use Rattle.tor_plan.specs.PlanFacts.{PlanFacts, plan_of_entries}
+use Rattle.tor_plan.specs.declared.units.PlanUnit.{PlanUnit}
 use Rattle.tor_parts.specs.Joining.{layers_over, roots_over}
 use Rattle.tor_spec.specs.Facts.{Facts, attrs_in, layers_in, listed, roots_in}
 use Rattle.tor_spec.specs.Metainfo.{root_dictionary}
@@ -26,6 +27,10 @@ abbrev pub plan_of_text : PlanText → PlanFacts
 plan_of_text text =
     plan_of_entries text.settings.kind text.settings.piece_length text.span
     (v1_entries (layout_of text.settings) text.settings.piece_length text.list.files)
+
+-- whether units have bytes of the file with this number (profile)
+abbrev pub has_bytes_of : List PlanUnit → ℕ → Bool
+has_bytes_of units file = list_any (λ unit. list_any (λ part. part.file == file) unit.parts) units
 
 -- the bytes are those of a lot of so many of a plan with this digest. Its hashes are those of these contents at its
 -- units (profile)

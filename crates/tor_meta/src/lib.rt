@@ -17,13 +17,14 @@
 //! - [`Listing`] (`listing.rt`): a head, the files of its torrent and how they are cut, judged, or the [`ListingError`]
 //!   for which there is none. [`write_plan`], [`read_plan`], [`plan_digest`] (`plans.rt`): its plan as bytes;
 //!   `plan_text.rt` writes them, `plan_reading.rt` reads them; [`PlanError`] (`listing_error.rt`).
-//! - [`make_plan`] (`planned.rt`): the plan of the files of a source. [`make_lot`] (`lots.rt`): one lot of a plan.
+//! - [`make_plan`] (`planned.rt`): the plan of the files of a source. [`make_lot`] (`lots.rt`): one lot of a plan;
+//!   [`files_of_lot`] (`lot_files.rt`): which files it has bytes of.
 //!   [`join_lots`] (`joined.rt`): the torrent of a plan and its lots, or the [`JoinError`] (`join_error.rt`) for which
 //!   there is none; `lot_rows.rt` puts the lots in order.
 //! - [`ContentsError`] (`refusals.rt`): why there is no torrent of files in memory.
 //! - `sums.rt`: the Merkle trees and the SHA-1 of the pieces, as far as a kind asks for them.
 //! - `torrent.rt`: from files and sums to bytes, by `info.rt`, `layers.rt` and `items.rt`.
-//! - [`Hashes`], [`info_hashes`], [`magnet`], [`write_out`] are those of `tor_spec`: info hashes and the magnet link, and
+//! - [`Hashes`], [`info_hashes`], [`magnet`], [`write_out`]: those of `tor_spec`, info hashes and the magnet link, and
 //!   all bytes into a writer.
 //! - [`laws`] (`laws.rt`): what is made is valid, and the limit of a span.
 //!
@@ -63,6 +64,7 @@ mod list_refusal;
 mod listed_files;
 mod listing;
 mod listing_error;
+mod lot_files;
 mod lot_rows;
 mod lots;
 mod make_error;
@@ -89,6 +91,7 @@ pub use joined::join_lots;
 pub use list_refusal::refusal_of_list;
 pub use listing::Listing;
 pub use listing_error::{ListingError, PlanError};
+pub use lot_files::files_of_lot;
 pub use lots::make_lot;
 pub use make_error::MakeError;
 pub use making::make_fed;

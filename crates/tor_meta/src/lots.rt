@@ -84,7 +84,7 @@ pub fn make_lot<S: Source, R: Threads + Sync>(
 }
 
 /// The plan of a listing.
-fn plan_of_listing(alloc: Global, listing: &Listing) -> Result<Plan, AllocError>
+pub(crate) fn plan_of_listing(alloc: Global, listing: &Listing) -> Result<Plan, AllocError>
     ensures same { IfOk result (λ plan. plan ≡ plan_of_text (text_of_listing listing.now)) }
     ensures lengths { IfOk result (λ plan. plan.lengths ≡ lengths_of listing.now.list.files) }
 {

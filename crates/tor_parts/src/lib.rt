@@ -14,9 +14,9 @@
 //! }
 //! ```
 //!
-//! - [`deal`] (`dealing.rt`): the units of each of so many lots; [`deal_all`]: of all of them at once. [`hash_dealt`]
+//! - [`deal`] (`dealing.rt`): which units each of so many lots has; [`deal_all`]: of all of them at once. [`hash_dealt`]
 //!   (`hashing.rt`) hashes those of one; [`hash_own`] (`own_lot.rt`) asks the lengths of its files too, before and
-//!   after (`own_files.rt`).
+//!   after (`own_files.rt`). [`units_of_lot`]: the units themselves.
 //! - [`Lot`], [`write_lot`], [`read_lot`] (`lot_text.rt`): what one machine hashed, as bytes.
 //! - [`join_sums`] (`joining.rt`): the sums of the files, from the hashes of all pieces; [`join_rows`] (`rows.rt`):
 //!   from those of each lot. [`has_all_pieces`] (`counting.rt`): whether rows have as many as all pieces want;
@@ -42,5 +42,5 @@ pub use hashing::hash_dealt;
 pub use joining::join_sums;
 pub use lot_text::{Lot, MAX_LOTS, read_lot, write_lot};
 pub use own_counts::has_own_pieces;
-pub use own_lot::hash_own;
+pub use own_lot::{hash_own, units_of_lot};
 pub use rows::join_rows;

@@ -67,8 +67,8 @@ pub fn hash_own<S: Source, R: Threads + Sync>(
     }
 }
 
-/// The units of a lot.
-fn units_of_lot(plan: &Plan, lots: u32, lot: u32) -> &[PlanUnit]
+/// The units of one of so many lots of a plan. Lots are counted from 0.
+pub fn units_of_lot(plan: &Plan, lots: u32, lot: u32) -> &[PlanUnit]
     requires { lot < lots }
     ensures units { result.now ≡ dealt lots lot plan.now.units }
     ensures in_files { AreInFiles plan.now.lengths result.now }

@@ -28,13 +28,14 @@
 //! - [`laws`] (`laws.rt`): laws over the sources in memory, and the limits of an input.
 //!
 //! `walk.rt` finds the files below a folder, `named.rt` those of a list, both into `found.rt`; `folder_names.rt` reads
-//! the names in a folder, and `open_folders.rt` holds folders open meanwhile. `unlinked.rt` has a source that follows
-//! no link, and tells how its files stand. `places.rt` has the places of files, each written when it is asked for, into
-//! a `Place` (`place.rt`); `regular.rt` reads what stands at a place, `listed_file.rt` a file that has to be as it was
-//! listed, and `same_file.rt` tells whether two places have one file.
+//! the names in a folder. `open_folders.rt` holds folders open meanwhile, `deep_folders.rt` those deeper than a file may
+//! be. `unlinked.rt` has a source that follows no link, and tells how its files stand. `places.rt` has the places of
+//! files, each written when it is asked for, into a `Place` (`place.rt`); `regular.rt` reads what stands at a place,
+//! `listed_file.rt` a file that has to be as it was listed, and `same_file.rt` tells whether two places have one file.
 #![tactic(auto)]
 
 mod buffer;
+mod deep_folders;
 mod extra;
 mod failing;
 mod faults;
@@ -69,6 +70,7 @@ pub use folder::{FolderSource, Survey};
 pub use input::{InputFault, MAX_INPUT_LENGTH, drop_input, read_limited, read_parts};
 pub use intake::{Dropped, Intake};
 pub use lazy::LazyFile;
+pub use listed_file::FileNumber;
 pub use memory::MemSource;
 pub use refused::{OtherKind, Refusal, Refused};
 pub use short::ShortSource;

@@ -12,23 +12,25 @@ use std::io;
 use std::os::unix::fs::{FileExt, MetadataExt};
 use std::rt::Files;
 
-/// Which file of the system it is: its number, and that of its device.
+/// Which file of the system it is: its number, and that of its device. A file keeps it as long as it is there, under
+/// all its names.
 #[derive(Clone, Copy)]
-pub(crate) struct FileNumber {
+pub struct FileNumber {
     device: u64,
     inode: u64,
 }
 
 impl FileNumber {
-    /// The number of the file of which the system told this.
-    pub(crate) fn of(metadata: &Metadata) -> FileNumber {
+    /// The number of the file that the system describes so.
+    pub fn of(metadata: &Metadata) -> FileNumber {
         FileNumber {
             device: metadata.dev(),
             inode: metadata.ino(),
         }
     }
 
-    pub(crate) fn is(self, other: FileNumber) -> bool {
+    /// Whether it is the same file.
+    pub fn is(self, other: FileNumber) -> bool {
         self.inode == other.inode && self.device == other.device
     }
 }
@@ -135,20 +137,31 @@ pub(crate) fn changed() -> io::Error
     io::Error::from(io::ErrorKind::InvalidData)
 }
 
-/// The file that was listed at a place, opened to be read; None if it is not there, or no more as it was listed. It is
-/// opened before it is asked what it is, so that what is put in its place afterwards gives nothing.
+/// The file that was listed at a place, opened to be read; None if it is not there, or no longer as it was listed. It
+/// is compared with the listing right before it is opened, since opening a FIFO would wait, and again once it is open,
+/// so that what replaces it in between gives nothing.
 pub(crate) fn open_listed<R: Files>(
     rt: &R,
     place: &str,
     listed: &ListedFile,
 ) -> io::Result<Option<R::File>> {
-    let file = match fs::open(rt, place) {
-        Ok(file) => file,
-        Err(fault) if is_absence_at(place, fault.kind()) => return Ok(None),
-        Err(fault) => return Err(fault),
-    };
-    let metadata = file.metadata()?;
-    if listed.is_still(&metadata) {
+    match open_if_still(rt, place, listed) {
+        Err(fault) if is_absence_at(place, fault.kind()) => Ok(None),
+        opened => opened,
+    }
+}
+
+// As `open_listed`, but that nothing is there is a fault.
+fn open_if_still<R: Files>(
+    rt: &R,
+    place: &str,
+    listed: &ListedFile,
+) -> io::Result<Option<R::File>> {
+    if !listed.is_still(&rt.metadata(place)?) {
+        return Ok(None);
+    }
+    let file = fs::open(rt, place)?;
+    if listed.is_still(&file.metadata()?) {
         Ok(Some(file))
     } else {
         Ok(None)

@@ -145,7 +145,7 @@ where
     let (folders, _) = names.split_at(names.len().saturating_sub(1));
     let known = common(&leading.names, folders);
     leading.names.truncate(known);
-    leading.open.leave(known);
+    leading.open.leave(rt, alloc, known);
     if let Some(refusal) = go_on(rt, alloc, leading, folders)? {
         return Ok(Sought::NotTaken(refusal));
     }

@@ -1,8 +1,9 @@
 //! The folders on the way to what is listed, held open. Each is entered by the descriptor of the one before, and what
-//! is in it is asked for by its own, so that no link that takes the place of a folder meanwhile leads out of it. What
-//! is in the top one is asked for at its own place, but a folder there is entered by the descriptor.
+//! is in it is looked up by its own. So no link that replaces a folder meanwhile leads out of it, and nothing is listed
+//! of another folder that replaces the top one.
 ghost use Rattle.std.specs.Prelude.{◌≤◌, vec_len};
 
+use crate::deep_folders::DeepFolders;
 use crate::faults::{ScanFault, is_absence};
 use crate::listed_file::FileNumber;
 use crate::place::Place;
@@ -14,15 +15,15 @@ use std::os::fd::AsRawFd;
 use std::rt::Files;
 use tor_tree::{MAX_NAMES, Name};
 
-/// How many folders below the top one are held open. What is in a deeper one is no file that could be taken.
+/// How many folders below the top one are all held open. What is in a deeper one is no file that could be taken.
 const MAX_OPEN: usize = MAX_NAMES - 1;
 
 /// A folder, and the place from which what is in it is asked for.
 #[derive(Drop)]
-struct OpenFolder<F: Drop> {
+pub(crate) struct OpenFolder<F: Drop> {
     /// What holds the folder open; None if its place is its own.
     file: Option<F>,
-    place: String,
+    pub(crate) place: String,
 }
 
 /// The folders that are held open; none where the system has no places for what is held open.
@@ -35,6 +36,8 @@ pub(crate) struct OpenFolders<R: Files> {
     top: OpenFolder<R::File>,
     /// Each in the one before, the first in the top one.
     below: Vec<OpenFolder<R::File>>,
+    /// Those in the last of them.
+    deep: DeepFolders<R::File>,
 }
 
 impl<R: Files> OpenFolders<R>
@@ -88,14 +91,32 @@ where
             root: String::from_str(alloc, root)?,
             top: OpenFolder { file: None, place },
             below: Vec::new(alloc),
+            deep: DeepFolders::none(alloc),
         })
     }
 
     /// Lets go of the folders that more than so many names lead to.
-    pub(crate) fn leave(&mut self, depth: usize)
+    pub(crate) fn leave(&mut self, rt: &R, alloc: Global, depth: usize)
         ensures { vec_len self.new.below ≤ depth }
     {
+        if let Some(descriptors) = &self.descriptors {
+            let deep = depth.saturating_sub(MAX_OPEN);
+            self.deep.rise(rt, alloc, descriptors, deep);
+        }
         self.below.truncate(depth);
+    }
+
+    // The last folder that is held open, or the top one.
+    fn last(&self) -> &OpenFolder<R::File> {
+        match self.deep.last() {
+            Some(folder) => folder,
+            None => self.below.last().unwrap_or(&self.top),
+        }
+    }
+
+    // How many names lead to it.
+    fn depth(&self) -> usize {
+        self.below.len().saturating_add(self.deep.count())
     }
 
     /// What the system tells of what these names lead to: of a link there, of the link itself.
@@ -105,21 +126,10 @@ where
         rt.symlink_metadata(place.as_str())
     }
 
-    // Writes where the system is asked for what these names lead to: in the last folder that is held open. What is in
-    // the top one is asked for at its own place, if that is not too long: it takes half the time, and no link below
-    // the top folder is on that way.
-    fn write_place(&self, names: &[Name], place: &mut Place) -> io::Result<()> {
-        if names.len() == 1 && place.write(without_slash(&self.root), names).is_ok() {
-            return Ok(());
-        }
-        self.write_held(names, place)
-    }
-
     // Writes the place that what these names lead to has in the last folder that is held open.
-    fn write_held(&self, names: &[Name], place: &mut Place) -> io::Result<()> {
-        let folder = self.below.last().unwrap_or(&self.top);
-        let (_, names) = names.split_at(self.below.len().min(names.len()));
-        place.write(&folder.place, names)
+    fn write_place(&self, names: &[Name], place: &mut Place) -> io::Result<()> {
+        let (_, names) = names.split_at(self.depth().min(names.len()));
+        place.write(&self.last().place, names)
     }
 
     /// Goes into the folder to which these names lead, which has to be the one of which this was told; and its names as
@@ -132,16 +142,15 @@ where
         told: &Metadata,
     ) -> io::Result<R::Dir> {
         let mut place = Place::new();
-        self.write_held(names, &mut place)?;
-        let is_held = self.go_to(rt, alloc, place.as_str(), told)?;
-        match self.below.last() {
-            Some(folder) if is_held => names_in(rt, alloc, &folder.place),
-            _ => rt.open_dir(place.as_str()),
+        self.write_place(names, &mut place)?;
+        if self.go_to(rt, alloc, names.len(), place.as_str(), told)? {
+            names_in(rt, alloc, &self.last().place)
+        } else {
+            rt.open_dir(place.as_str())
         }
     }
 
-    /// Holds the folder open to which these names lead, which has to be the one of which this was told, if it is not
-    /// deeper than a file may be.
+    /// Holds the folder open to which these names lead, which has to be the one of which this was told.
     pub(crate) fn go_into(
         &mut self,
         rt: &R,
@@ -150,23 +159,36 @@ where
         told: &Metadata,
     ) -> io::Result<()> {
         let mut place = Place::new();
-        self.write_held(names, &mut place)?;
-        self.go_to(rt, alloc, place.as_str(), told)?;
+        self.write_place(names, &mut place)?;
+        self.go_to(rt, alloc, names.len(), place.as_str(), told)?;
         Ok(())
     }
 
-    // Holds the folder at a place open, in the last one that is, if it is not deeper than a file may be; and whether it
+    // Holds the folder at a place open, to which so many names lead, if it is in the last one that is; and whether it
     // does.
-    fn go_to(&mut self, rt: &R, alloc: Global, place: &str, told: &Metadata) -> io::Result<bool> {
+    fn go_to(
+        &mut self,
+        rt: &R,
+        alloc: Global,
+        depth: usize,
+        place: &str,
+        told: &Metadata,
+    ) -> io::Result<bool> {
         let descriptors = match &self.descriptors {
-            Some(descriptors) if self.below.len() < MAX_OPEN => descriptors,
+            Some(descriptors) if depth == self.depth().saturating_add(1) => descriptors,
             _ => return Ok(false),
         };
         let file = open_folder(rt, alloc, place)?;
-        if !FileNumber::of(&file.metadata()?).is(FileNumber::of(told)) {
+        let number = FileNumber::of(told);
+        if !number.is(FileNumber::of(&file.metadata()?)) {
             return Err(io::Error::from(ErrorKind::Other));
         }
-        self.below.push(hold(alloc, descriptors, file)?)?;
+        let folder = hold(alloc, descriptors, file)?;
+        if self.below.len() < MAX_OPEN {
+            self.below.push(folder)?;
+        } else {
+            self.deep.push(number, folder)?;
+        }
         Ok(true)
     }
 }
@@ -183,8 +205,8 @@ fn judge_folder<R: Files>(rt: &R, place: &str) -> Result<(), ScanFault> {
     Ok(())
 }
 
-// The folder at a place, opened. Behind a slash nothing else is: to open a FIFO would wait.
-fn open_folder<R: Files>(rt: &R, alloc: Global, place: &str) -> io::Result<R::File> {
+/// The folder at a place, opened. Behind a slash nothing else is: to open a FIFO would wait.
+pub(crate) fn open_folder<R: Files>(rt: &R, alloc: Global, place: &str) -> io::Result<R::File> {
     let behind = format!(in alloc; "{place}/")?;
     fs::open(rt, &behind)
 }
@@ -198,8 +220,8 @@ fn descriptors<R: Files>(rt: &R, alloc: Global) -> Result<Option<String>, ScanFa
     }
 }
 
-// A folder that was opened, whose place is that of what holds it open.
-fn hold<F: AsRawFd + Drop>(
+/// A folder that was opened, whose place is that of what holds it open.
+pub(crate) fn hold<F: AsRawFd + Drop>(
     alloc: Global,
     descriptors: &str,
     file: F,

@@ -91,7 +91,7 @@ where
         let Some(entry) = waiting.pop() else {
             return Ok(found);
         };
-        open.leave(entry.depth);
+        open.leave(rt, alloc, entry.depth);
         enter(rt, alloc, entry, open, &mut last, &mut waiting, &mut found)?;
         if ends && !found.refused.is_empty() {
             return Ok(found);

@@ -8,6 +8,7 @@ ghost use Rattle.tor_edit.specs.Tracker.{IsWithTracker};
 use crate::edit::words::EditOptions;
 use crate::fault::Fault;
 use crate::foreign::read_file;
+use crate::out_before::OutBefore;
 use crate::whole_file::send_whole;
 use std::alloc::Global;
 use std::io::Write;
@@ -24,10 +25,11 @@ pub fn edit<W: Write>(
     ensures stopped { (reader : Option (List ℕ)) → IfErr result (StopsEditing options.now (writing reader
         (W.contents out.old) (W.contents out.new))) }
 {
+    let before = OutBefore::at(system, options.out);
     let alloc = system.alloc();
     let bytes = read_file(alloc, system, options.torrent)?;
     let edited = edited_of(alloc, &bytes, options)?;
-    send_whole(system, out, options.out, &edited)
+    send_whole(system, out, options.out, &before, &edited)
 }
 
 /// The torrent that the bytes are, with the tracker that the words name.

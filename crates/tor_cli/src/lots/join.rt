@@ -7,6 +7,7 @@ ghost use Rattle.tor_meta.specs.steps.Join.{texts_of};
 use crate::fault::Fault;
 use crate::foreign::read_file;
 use crate::lots::join_words::JoinOptions;
+use crate::out_before::OutBefore;
 use crate::text::escape::escaped;
 use crate::whole_file::send_whole;
 use std::alloc::{AllocError, Global};
@@ -25,6 +26,7 @@ pub fn join<W: Write>(
     ensures stopped { (reader : Option (List ℕ)) → IfErr result (StopsJoining options.now (writing reader
         (W.contents out.old) (W.contents out.new))) }
 {
+    let before = OutBefore::at(system, options.out);
     let alloc = system.alloc();
     let plan = read_file(alloc, system, options.plan)?;
     let parts = read_parts(alloc, system, &options.parts)?;
@@ -32,7 +34,7 @@ pub fn join<W: Write>(
         Ok(torrent) => torrent,
         Err(error) => return Err(join_fault(alloc, error, &options.parts)?),
     };
-    send_whole(system, out, options.out, &torrent)
+    send_whole(system, out, options.out, &before, &torrent)
 }
 
 /// The bytes of each part.

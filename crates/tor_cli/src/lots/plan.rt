@@ -10,6 +10,7 @@ use crate::fault::Fault;
 use crate::lots::plan_options::PlanOptions;
 use crate::make::chosen_files::chosen_files;
 use crate::make::command::files_to_make;
+use crate::out_before::OutBefore;
 use crate::whole_file::send_whole;
 use std::io::{Read, Write};
 use tor_meta::make_plan;
@@ -28,9 +29,10 @@ pub fn plan<R: Read, W: Write>(
     ensures stopped { IfErr result (StopsPlanning options.now (streams (R.remaining reader.old) (R.remaining reader.new)
         (W.contents out.old) (W.contents out.new))) }
 {
+    let before = OutBefore::at(system, options.torrent.out);
     let chosen = chosen_files(system.alloc(), system, options.torrent.list, reader)?;
     let plan = plan_at(system, options, chosen)?;
-    send_whole(system, out, options.torrent.out, &plan)
+    send_whole(system, out, options.torrent.out, &before, &plan)
 }
 
 /// The plan of the file or the files at a place.

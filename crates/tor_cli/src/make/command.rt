@@ -26,6 +26,7 @@ use crate::make::from_place::{LetteredFiles, files_at, torrent_of};
 use crate::make::options::MakeOptions;
 use crate::make::out_file::{refuse_out_among_files, refuse_unwritable, send};
 use crate::make::way::{Way, how_of, workers_after};
+use crate::out_before::OutBefore;
 use crate::progress::Progress;
 use std::alloc::{AllocError, Global};
 use std::io::{Read, Write};
@@ -72,6 +73,7 @@ fn make_of_input<T: Threads + Wait + Sync + Send + Clone + Drop + 'static, R: Re
     ensures stopped { IfErr result (StopsInput options.now (streams (R.remaining reader.old) (R.remaining reader.new)
         (W.contents out.old) (W.contents out.new))) }
 {
+    let before = OutBefore::at(system, options.out);
     let alloc = system.alloc();
     let (order, attr) = match order_of_one(system, options) {
         Ok(both) => both,
@@ -81,7 +83,7 @@ fn make_of_input<T: Threads + Wait + Sync + Send + Clone + Drop + 'static, R: Re
         }
     };
     let torrent = torrent_of_input(rt, alloc, options.way, reader, &order, attr)?;
-    Ok(send(system, out, options.out, &torrent)?)
+    Ok(send(system, out, options.out, &before, &torrent)?)
 }
 
 /// The torrent of what the reader has.
@@ -120,18 +122,29 @@ fn make_of_place<T: Threads + Wait + Sync, R: Read, W: Write>(
     ensures stopped { IfErr result (StopsPlace options.now (streams (R.remaining reader.old) (R.remaining reader.new)
         (W.contents out.old) (W.contents out.new))) }
 {
+    let before = OutBefore::at(system, options.out);
     let chosen = chosen_files(system.alloc(), system, options.list, reader)?;
-    make_of_files(rt, system, options, place, chosen, out, shows_progress)
+    make_of_files(
+        rt,
+        system,
+        options,
+        place,
+        chosen,
+        &before,
+        out,
+        shows_progress,
+    )
 }
 
 /// Makes the torrent of the file at a place of the system, or of the files below the folder there: all, or those that
-/// are chosen. Nothing is written before it may go out.
+/// are chosen; at FILE this stood before. Nothing is written before it may go out.
 fn make_of_files<T: Threads + Wait + Sync, W: Write>(
     rt: &T,
     system: &HostRuntime,
     options: &MakeOptions<'_>,
     place: &str,
     chosen: Option<Vec<FilePath>>,
+    before: &OutBefore,
     out: &mut W,
     shows_progress: bool,
 ) -> Result<(), Fault>
@@ -142,7 +155,7 @@ fn make_of_files<T: Threads + Wait + Sync, W: Write>(
         (option_map (λ paths. paths.items) chosen) (writing reader (W.contents out.old) (W.contents out.new))) }
 {
     let torrent = torrent_to_send(rt, system, options, place, chosen, shows_progress)?;
-    Ok(send(system, out, options.out, &torrent)?)
+    Ok(send(system, out, options.out, before, &torrent)?)
 }
 
 /// The torrent of the file or the folder at a place of the system, if it may go out: with `--check-after` only if the

@@ -6,35 +6,94 @@ ghost use Rattle.tor_cli.specs.declared.fault.Fault.TheVariants.{Write as OutFau
 ghost use Rattle.tor_source.specs.declared.faults.ScanFault.TheVariants.{System};
 
 use crate::fault::Fault;
+use crate::out_before::{OutBefore, exchanged};
 use crate::unwritten::Unwritten;
-use std::fs::{self, File, OpenOptions};
+use std::fs::{File, OpenFile, OpenOptions};
 use std::io::{self, ErrorKind, Write};
 use std::rt::Files;
-use tor_source::FolderSource;
+use tor_source::{FileNumber, FolderSource};
 use tor_spec::{WriteFault, write_out};
 
-/// Makes or empties the file `place`, and writes the bytes into it. If it stops, what went into it stays there.
-pub fn write_file<H: Files>(system: &H, place: &str, bytes: &[u8]) -> Result<(), WriteFault>
+/// Makes or empties the file `place`, at which this stood before, writes the bytes into it, and has the system keep
+/// them. If a write stops, what went into it stays there.
+pub fn write_file(
+    system: &HostRuntime,
+    place: &str,
+    before: &OutBefore,
+    bytes: &[u8],
+) -> Result<(), WriteFault>
     ensures within { IfErr result (λ fault. fault.written ≤ length bytes.now) }
     ensures part { 0 < length bytes.now → IfErr result (λ fault. fault.written < length bytes.now) }
 {
-    let mut file = match fs::create(system, place) {
+    let mut file = match before.open(system, place) {
         Ok(file) => file,
-        Err(fault) => {
-            return Err(WriteFault {
-                written: 0,
-                fault: Some(fault),
-            });
-        }
+        Err(fault) => return Err(before_all(fault)),
     };
-    write_out(&mut file, bytes)
+    match write_out(&mut file, bytes) {
+        Ok(()) => kept(system, place, file, bytes.len()),
+        Err(fault) => Err(fault),
+    }
 }
 
-/// Writes a torrent into the file `place`, or to `out` if there is none.
-pub fn send<H: Files, W: Write>(
-    system: &H,
+/// That no byte is known to be there, for this reason.
+pub(crate) fn before_all(fault: io::Error) -> WriteFault
+    ensures { result.written ≡ 0 }
+{
+    WriteFault {
+        written: 0,
+        fault: Some(fault),
+    }
+}
+
+/// That so many bytes were written into a file, once the system keeps them at its place.
+fn kept(system: &HostRuntime, place: &str, file: File, length: usize) -> Result<(), WriteFault>
+    ensures { IfErr result (λ fault. fault.written ≡ 0) }
+{
+    match keep(system, place, file, length) {
+        Ok(()) => Ok(()),
+        Err(fault) => Err(before_all(fault)),
+    }
+}
+
+/// Has the system keep what was written into a file, and closes it: it has to be at this place still, and have so many
+/// bytes. A file system may refuse them as late as that, and no call reports how closing ended. What is no regular file
+/// is left as it is.
+pub(crate) fn keep(system: &HostRuntime, place: &str, file: File, length: usize) -> io::Result<()> {
+    let written = file.metadata()?;
+    if !written.is_file() {
+        return Ok(());
+    }
+    sync(&file)?;
+    drop(file);
+    let there = system.metadata(place)?;
+    if !FileNumber::of(&written).is(FileNumber::of(&there)) {
+        return Err(exchanged());
+    }
+    if there.len() != length as u64 {
+        return Err(io::Error::other("the file has not all bytes once it is closed"));
+    }
+    Ok(())
+}
+
+/// Has the system keep what was written into a file, if its file system can be asked to.
+fn sync(file: &File) -> io::Result<()> {
+    match file.sync_all() {
+        Err(fault) if is_without_sync(fault.kind()) => Ok(()),
+        synced => synced,
+    }
+}
+
+/// Whether a fault of this kind says that a file system does not take this question.
+fn is_without_sync(kind: ErrorKind) -> bool {
+    matches!(kind, ErrorKind::InvalidInput | ErrorKind::Unsupported)
+}
+
+/// Writes a torrent into the file `place`, at which this stood before, or to `out` if there is none.
+pub fn send<W: Write>(
+    system: &HostRuntime,
     out: &mut W,
     place: Option<&str>,
+    before: &OutBefore,
     torrent: &[u8],
 ) -> Result<(), WriteFault>
     ensures whole { OnOk result (Sends (option_map (λ name. name.now) place.entry)
@@ -45,7 +104,7 @@ pub fn send<H: Files, W: Write>(
 {
     match place {
         None => write_out(out, torrent),
-        Some(place) => write_file(system, place, torrent),
+        Some(place) => write_file(system, place, before, torrent),
     }
 }
 

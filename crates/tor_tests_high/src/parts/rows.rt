@@ -1,14 +1,18 @@
-//! Rows of lots that are cut or too long, and a file that ends within a lot: of the files of three pieces, of none, of
-//! two and of one in a hybrid, in units of a piece. What is joined of lots is tried on the built program
-//! (`tests/joining.py`).
+//! Rows of lots that are cut or too long, a file that ends within a lot, and how often lengths are asked for: of the
+//! files of three pieces, of none, of two and of one in a hybrid, in units of a piece. What is joined of lots is tried on
+//! the built program (`tests/joining.py`).
+ghost use Rattle.tor_source.specs.Answers.{any_answers};
 
 use crate::meta::given::{files, source};
 use std::alloc::{AllocError, Global};
 use std::process::Abort;
+use std::sync::atomic::AtomicU64;
+use std::sync::atomic::Ordering::SeqCst;
 use std::thread::Threads;
 use tor_engine::{EngineError, How, PieceRow};
-use tor_parts::{has_all_pieces, hash_dealt};
+use tor_parts::{has_all_pieces, hash_dealt, hash_own};
 use tor_plan::Plan;
+use tor_source::Source;
 use tor_tree::{FileList, Kind};
 
 const SEVERAL: &str = "a=*40000 b= c=*16385 d=abc";
@@ -118,4 +122,75 @@ fn are_changed<R: AllocGlobal + Abort + Threads + Sync>(rt: &R) -> bool {
 #[test]
 fn tells_a_file_that_ends_within_a_lot(rt: HostRuntime) {
     assert!(rt; are_changed(&rt));
+}
+
+/// The files of `SEVERAL`, of which the last has another length when it is asked for again. It counts how often it is
+/// asked for the lengths of the first and of the last.
+#[derive(Drop)]
+struct Again {
+    first: AtomicU64,
+    last: AtomicU64,
+    again: Option<u64>,
+}
+
+impl Source for Again {
+    type Fault = u64;
+
+    ghost is_steady = { λ _ _. ⊥ };
+
+    ghost answers = { λ _. any_answers };
+
+    fn length(&self, file: u64) -> Result<Option<u64>, u64> {
+        match file {
+            0 => {
+                self.first.fetch_add(1, SeqCst);
+                Ok(Some(40000))
+            }
+            1 => Ok(Some(0)),
+            2 => Ok(Some(16385)),
+            _ if self.last.fetch_add(1, SeqCst) > 0 => Ok(self.again),
+            _ => Ok(Some(3)),
+        }
+    }
+
+    fn read_at(&self, file: u64, start: u64, buffer: &mut [u8]) -> Result<usize, u64> {
+        let length: u64 = match file {
+            0 => 40000,
+            2 => 16385,
+            3 => 3,
+            _ => 0,
+        };
+        Ok(buffer.len().min(length.saturating_sub(start) as usize))
+    }
+}
+
+/// Whether the last of three lots, which has no byte of the first file, is hashed, or else the last file was changed;
+/// and how often the lengths of the first and the last file were asked for.
+fn of_last_lot<R: AllocGlobal + Abort + Threads + Sync>(
+    rt: &R,
+    again: Option<u64>,
+) -> Option<(bool, u64, u64)> {
+    let plan = plan_of(rt, 16384, 1).ok()?;
+    let source = Again {
+        first: AtomicU64::new(0),
+        last: AtomicU64::new(0),
+        again,
+    };
+    let is_hashed = match hash_own(rt, rt.alloc(), &source, &plan, 3, 2, How::Board(2)) {
+        Ok(_) => true,
+        Err(EngineError::Changed { file: 3 }) => false,
+        Err(_) => return None,
+    };
+    Some((
+        is_hashed,
+        source.first.load(SeqCst),
+        source.last.load(SeqCst),
+    ))
+}
+
+#[test]
+fn asks_for_its_own_lengths_twice(rt: HostRuntime) {
+    assert!(rt; of_last_lot(&rt, Some(3)) == Some((true, 0, 2)));
+    assert!(rt; of_last_lot(&rt, Some(4)) == Some((false, 0, 2)));
+    assert!(rt; of_last_lot(&rt, None) == Some((false, 0, 2)));
 }

@@ -128,7 +128,13 @@ const PLAN: &[Word<'static>] = &[
     ATTRS,
     FILES_FROM,
     SPAN,
-    OUT,
+    Word {
+        name: "out",
+        takes: Takes::Value { shown: "FILE" },
+        beside: &[],
+        without: &[],
+        help: "The file that the plan goes to, instead of standard output",
+    },
     Word {
         name: "path",
         takes: Takes::Argument {
