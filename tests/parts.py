@@ -403,3 +403,18 @@ def test_a_length_before_a_byte(program, folder):
     expect_told(words, refused(f'E1 Read file 1 at {4 * BLOCK}', 3), told)
     told, _ = traced(program, words, scene.at(0), failing, log)
     expect_told(words, done(scene.right()), told)
+
+
+def test_a_plan_of_one_file(program, folder):
+    """Its length is asked once more after the last read; if it is gone by then it was changed."""
+    refuser, place, plan, content = Refuser(program, folder), folder / 'one', folder / 'plan', FILES[3][1]
+    plan.write_bytes(encode({b'files': [b'', len(content), b'one'], b'kind': b'v2', b'name': b'one',
+                             b'piece length': BLOCK, b'single': 1, b'span': 1}))
+    words = ['make', '--plan', str(plan), '--part', '0/1', '--how', 'one', str(place)]
+
+    def lay_out_one():
+        place.unlink(missing_ok=True)
+        place.write_bytes(content)
+    for move in [REMOVED, GROWN, CUT, LINKED]:
+        *_, last = refuser.each(words, Meet('s', does='hold'), act=lambda _: move.act(place), before=lay_out_one)
+        expect_one_of(move.name, lines_of(move.between, 0), Told(*last[:3]))
