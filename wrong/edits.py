@@ -86,4 +86,6 @@ class Crate:
             (self.place / file).write_text(text)
         done = subprocess.run(['rattle', 'check', *self.words, *more], cwd=self.place, text=True, errors='replace',
                               stdin=subprocess.DEVNULL, stdout=subprocess.PIPE, stderr=subprocess.STDOUT, check=False)
+        if done.returncode < 0:
+            sys.exit(f'{self.name}: its check was ended by signal {-done.returncode}, so nothing is known of it')
         return done.stdout
