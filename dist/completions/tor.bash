@@ -1,8 +1,9 @@
-# Completion of the words of tor (BitTorrent metainfo files), for bash.
+# Completion of the words of tor (BitTorrent metainfo files), for bash. docs/options makes what is between its marks.
 
 # The options of a command, or of tor itself where there is none.
 _tor_options() {
     case $1 in
+        # docs/options: options
         '') echo '-h --help -V --version' ;;
         make) echo '--name --piece-length --kind --announce --private --tail --attrs --files-from --how --workers --span --check-after --out --plan --part --explain -h --help' ;;
         plan) echo '--name --piece-length --kind --announce --private --tail --attrs --files-from --span --out --explain -h --help' ;;
@@ -11,28 +12,43 @@ _tor_options() {
         check) echo '--null --json --roots --explain -h --help' ;;
         magnet) echo '--name --trackers --explain -h --help' ;;
         edit) echo '--announce --no-announce --out --explain -h --help' ;;
+        prove) echo '--explain -h --help' ;;
+        verify) echo '--explain -h --help' ;;
         recheck) echo '--files --bad --null --json --workers --keep-going --no-links --brief --part --extra --explain -h --help' ;;
-        prove | verify) echo '--explain -h --help' ;;
+        # docs/options: end
         *) echo '-h --help' ;;
     esac
 }
 
 # What an option of a command has for a value: words, `files`, or `any`. Nothing where it has none.
 _tor_value() {
-    case $2$1 in magnet--name) return ;; esac
-    case $1 in
-        --kind) echo 'v1 v2 hybrid' ;;
-        --how) echo 'one halves board streams' ;;
-        --attrs | --files-from | --out | --plan) echo files ;;
-        --workers | --piece-length) echo auto ;;
-        --name | --announce | --span | --part) echo any ;;
+    case $2$1 in
+        # docs/options: values
+        make--name | make--announce | make--span | make--part) echo 'any' ;;
+        make--piece-length | make--workers) echo 'auto' ;;
+        make--kind) echo 'v1 v2 hybrid' ;;
+        make--attrs | make--files-from | make--out | make--plan) echo 'files' ;;
+        make--how) echo 'one halves board streams' ;;
+        plan--name | plan--announce | plan--span) echo 'any' ;;
+        plan--piece-length) echo 'auto' ;;
+        plan--kind) echo 'v1 v2 hybrid' ;;
+        plan--attrs | plan--files-from | plan--out) echo 'files' ;;
+        join--out) echo 'files' ;;
+        scan--files-from) echo 'files' ;;
+        edit--announce) echo 'any' ;;
+        edit--out) echo 'files' ;;
+        recheck--workers) echo 'auto' ;;
+        recheck--part) echo 'any' ;;
+        # docs/options: end
     esac
 }
 
 # Whether a file goes to this place, from 1, behind a command.
 _tor_takes_file() {
     case $1-$2 in
-        make-1 | plan-1 | join-* | scan-1 | check-1 | magnet-1 | edit-1 | prove-1 | recheck-1 | recheck-2 | verify-4 | verify-5) return 0 ;;
+        # docs/options: places
+        make-1 | plan-1 | join-1 | join-* | scan-1 | check-1 | magnet-1 | edit-1 | prove-1 | verify-4 | verify-5 | recheck-1 | recheck-2) return 0 ;;
+        # docs/options: end
         *) return 1 ;;
     esac
 }
@@ -47,7 +63,9 @@ _tor_words() {
 }
 
 _tor() {
+    # docs/options: commands
     local commands='make plan join scan check magnet edit prove verify recheck help'
+    # docs/options: end
     local word=${COMP_WORDS[COMP_CWORD]} option='' command='' count=0 i
     # bash takes the = of --kind=v2 for a word of its own.
     for ((i = 1; i < COMP_CWORD; i++)); do
