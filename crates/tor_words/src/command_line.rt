@@ -10,8 +10,8 @@ use std::alloc::{AllocError, Global};
 
 // What the help ends with.
 const MORE: &str = "\
-Status: 0 done; 1 refused, answered by no, or not all pieces are there; 2 usage; 3 a read or write fault;
-4 memory or a thread refused. More: man tor";
+Exit status: 0 done; 1 refused, answered no, or not all pieces are there and right; 2 usage; 3 read or write fault;
+4 memory or a thread refused. More: the man page and the manual";
 
 /// The command line of `tor`: what it takes, and its help. `Err` if memory is refused.
 pub fn tor_command<'a>(alloc: Global) -> Result<Command<'a>, AllocError>
@@ -19,7 +19,7 @@ pub fn tor_command<'a>(alloc: Global) -> Result<Command<'a>, AllocError>
 {
     let top = Command::new(alloc, "tor")
         .version("1.2.0")
-        .about("Makes, checks and rechecks BitTorrent metainfo files, and proves single pieces")
+        .about("Make, validate and recheck BitTorrent metainfo files, and prove single pieces")
         .after_help(MORE)
         .subcommand_required(true)
         .bin_name("tor")?;

@@ -25,7 +25,7 @@ const EXPLAIN: Word<'static> = Word {
     takes: Takes::Nothing,
     beside: &[],
     without: &[],
-    help: "If it stops, says where and why in a second line",
+    help: "If the command fails, print where and why on a second line",
 };
 
 /// The command, and these below it.

@@ -15,7 +15,7 @@ pub fn check_table() -> CommandTable<'static>
 {
     CommandTable {
         name: "check",
-        about: "Tells what a torrent describes, or why a file is none",
+        about: "Validate a torrent and show what it contains",
         more: None,
         words: WORDS,
     }
@@ -27,7 +27,7 @@ const WORDS: &[Word<'static>] = &[
         takes: Takes::Nothing,
         beside: &[],
         without: &[],
-        help: "Prints the paths of the files alone, each ended by a zero byte",
+        help: "Print only the paths of the files, each ended by a zero byte",
     },
     JSON,
     Word {
@@ -35,7 +35,7 @@ const WORDS: &[Word<'static>] = &[
         takes: Takes::Nothing,
         beside: &[],
         without: &["null", "json"],
-        help: "Tells the root of each file too, the hash of its Merkle tree",
+        help: "Also print the root of each file, the hash of its Merkle tree",
     },
     TORRENT,
 ];

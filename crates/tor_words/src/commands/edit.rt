@@ -15,7 +15,7 @@ pub fn edit_table() -> CommandTable<'static>
 {
     CommandTable {
         name: "edit",
-        about: "Writes a torrent with another tracker, or with none",
+        about: "Write a torrent with another tracker, or with none",
         more: None,
         words: WORDS,
     }
@@ -30,14 +30,14 @@ const WORDS: &[Word<'static>] = &[
         },
         beside: &[],
         without: &[],
-        help: "The URL of the tracker, instead of all that the torrent has",
+        help: "URL of the tracker, in place of all that the torrent has",
     },
     Word {
         name: "no-announce",
         takes: Takes::Nothing,
         beside: &[],
         without: &["announce"],
-        help: "The torrent is to have no tracker",
+        help: "Remove all trackers",
     },
     OUT,
     TORRENT,

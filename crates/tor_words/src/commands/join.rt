@@ -15,7 +15,7 @@ pub fn join_table() -> CommandTable<'static>
 {
     CommandTable {
         name: "join",
-        about: "Makes the torrent of a plan and all its parts",
+        about: "Write the torrent of a plan and all its parts",
         more: None,
         words: WORDS,
     }
@@ -31,7 +31,7 @@ const WORDS: &[Word<'static>] = &[
         },
         beside: &[],
         without: &[],
-        help: "The file with the plan",
+        help: "File with the plan",
     },
     Word {
         name: "part",
@@ -41,6 +41,6 @@ const WORDS: &[Word<'static>] = &[
         },
         beside: &[],
         without: &[],
-        help: "The files with the parts, in any order",
+        help: "Files with the parts, in any order",
     },
 ];

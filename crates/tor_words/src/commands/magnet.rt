@@ -15,7 +15,7 @@ pub fn magnet_table() -> CommandTable<'static>
 {
     CommandTable {
         name: "magnet",
-        about: "Prints the magnet link of a torrent",
+        about: "Print the magnet link of a torrent",
         more: None,
         words: WORDS,
     }
@@ -27,14 +27,14 @@ const WORDS: &[Word<'static>] = &[
         takes: Takes::Nothing,
         beside: &[],
         without: &[],
-        help: "The link has the torrent's name too, which clients show until they know its files",
+        help: "Add the torrent's name, which clients show until they know its files",
     },
     Word {
         name: "trackers",
         takes: Takes::Nothing,
         beside: &[],
         without: &[],
-        help: "The link has the URL of the torrent's tracker too, if it names one",
+        help: "Add the URL of the torrent's tracker, if it has one",
     },
     TORRENT,
 ];

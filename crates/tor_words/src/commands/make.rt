@@ -17,7 +17,7 @@ pub fn make_table() -> CommandTable<'static>
 {
     CommandTable {
         name: "make",
-        about: "Makes a torrent of standard input, or of a file or folder",
+        about: "Make a torrent of a file, a folder or standard input",
         more: Some(
             "Fastest for a file or folder: --how board --workers auto. The torrent is the same for each HOW.",
         ),
@@ -32,7 +32,7 @@ pub fn plan_table() -> CommandTable<'static>
 {
     CommandTable {
         name: "plan",
-        about: "Makes the plan by which many machines hash one torrent",
+        about: "Write a plan by which many machines hash one torrent",
         more: None,
         words: PLAN,
     }
@@ -65,7 +65,7 @@ const MAKE: &[Word<'static>] = &[
         },
         beside: &[],
         without: &[],
-        help: "Who hashes: one worker, or several, by halves, at a board or behind a stream",
+        help: "Who hashes: one worker, or several that split the files (halves), share a queue (board) or follow one reader (streams)",
     },
     Word {
         name: "workers",
@@ -75,7 +75,7 @@ const MAKE: &[Word<'static>] = &[
         },
         beside: &[],
         without: &[],
-        help: "How many workers share the hashing, with --how halves, board or streams: from 1 to 64, or auto",
+        help: "Number of workers for halves, board and streams: 1 to 64, or auto for one per processor",
     },
     SPAN,
     Word {
@@ -83,7 +83,7 @@ const MAKE: &[Word<'static>] = &[
         takes: Takes::Nothing,
         beside: &["path"],
         without: &[],
-        help: "Writes the torrent only if PATH still has each piece of it",
+        help: "Read PATH again, and write the torrent only if every piece still matches",
     },
     OUT,
     Word {
@@ -94,21 +94,21 @@ const MAKE: &[Word<'static>] = &[
         },
         beside: &[],
         without: &[],
-        help: "The file or folder that the torrent is of, instead of standard input",
+        help: "File or folder to make a torrent of (default: standard input)",
     },
     Word {
         name: "plan",
         takes: Takes::Value { shown: "PLAN" },
         beside: &["part", "path"],
         without: &SAID,
-        help: "The file with the plan of which one part is hashed; the plan says all else",
+        help: "Hash a part of the plan in PLAN; the plan has the torrent's settings",
     },
     Word {
         name: "part",
         takes: Takes::Value { shown: "K/N" },
         beside: &["plan"],
         without: &[],
-        help: "With --plan, which part of how many, as 0/16: parts are counted from 0",
+        help: "Hash part K of N (0-based), such as 0/16; needs --plan",
     },
 ];
 
@@ -128,13 +128,7 @@ const PLAN: &[Word<'static>] = &[
     ATTRS,
     FILES_FROM,
     SPAN,
-    Word {
-        name: "out",
-        takes: Takes::Value { shown: "FILE" },
-        beside: &[],
-        without: &[],
-        help: "The file that the plan goes to, instead of standard output",
-    },
+    OUT,
     Word {
         name: "path",
         takes: Takes::Argument {
@@ -143,7 +137,7 @@ const PLAN: &[Word<'static>] = &[
         },
         beside: &[],
         without: &[],
-        help: "The file or folder that the torrent is of",
+        help: "File or folder to make a torrent of",
     },
 ];
 
@@ -161,7 +155,7 @@ const SAID: [&str; 10] = [
     "check-after",
 ];
 
-const NAME: &str = "The name that the torrent suggests for its content";
+const NAME: &str = "Name of the torrent, and of a single file";
 
 const PIECE_LENGTH: Word<'static> = Word {
     name: "piece-length",
@@ -171,7 +165,7 @@ const PIECE_LENGTH: Word<'static> = Word {
     },
     beside: &[],
     without: &[],
-    help: "Bytes in a piece: a power of two from 16384 to 1073741824, or auto, which suits the files of PATH",
+    help: "Bytes in a piece: a power of two from 16384 to 1073741824, or auto to suit the size of PATH",
 };
 
 const KIND: Word<'static> = Word {
@@ -183,7 +177,7 @@ const KIND: Word<'static> = Word {
     },
     beside: &[],
     without: &[],
-    help: "Which clients can use the torrent: of version 1, of version 2, or both",
+    help: "Which clients can use the torrent: BitTorrent v1, v2, or both (hybrid)",
 };
 
 const ANNOUNCE: Word<'static> = Word {
@@ -191,7 +185,7 @@ const ANNOUNCE: Word<'static> = Word {
     takes: Takes::Value { shown: "URL" },
     beside: &[],
     without: &[],
-    help: "The URL of the tracker",
+    help: "URL of the tracker",
 };
 
 const PRIVATE: Word<'static> = Word {
@@ -199,7 +193,7 @@ const PRIVATE: Word<'static> = Word {
     takes: Takes::Nothing,
     beside: &[],
     without: &[],
-    help: "Peers are to come from the tracker alone",
+    help: "Allow peers from the tracker only",
 };
 
 const TAIL: Word<'static> = Word {
@@ -207,7 +201,7 @@ const TAIL: Word<'static> = Word {
     takes: Takes::Nothing,
     beside: &[],
     without: &[],
-    help: "Pads the last file of a hybrid folder too; changes nothing elsewhere",
+    help: "Pad the last file too, in a hybrid of a folder",
 };
 
 const ATTRS: Word<'static> = Word {
@@ -215,11 +209,11 @@ const ATTRS: Word<'static> = Word {
     takes: Takes::Value { shown: "FILE" },
     beside: &[],
     without: &[],
-    help: "The file that says which files are executable or hidden, a line each: x, h or hx, a space, the path",
+    help: "Mark files as executable or hidden: FILE has a line for each, with x, h or hx, a space, the path",
 };
 
 const LISTS: &str =
-    "The file, or - for standard input, that lists which files below PATH to take, each path ended by a zero byte";
+    "Take only the files that FILE lists (-: standard input): paths below PATH, each ended by a zero byte";
 
 const FILES_FROM: Word<'static> = Word {
     name: "files-from",
@@ -237,5 +231,5 @@ const SPAN: Word<'static> = Word {
     },
     beside: &[],
     without: &[],
-    help: "Pieces that a worker takes at a time: a power of two from 1 to 1024; the torrent is the same",
+    help: "Pieces that a worker takes at a time: a power of two from 1 to 1024",
 };

@@ -15,7 +15,7 @@ pub fn prove_table() -> CommandTable<'static>
 {
     CommandTable {
         name: "prove",
-        about: "Proves that a piece is of a file of a torrent",
+        about: "Prove that a piece belongs to a file of a torrent",
         more: None,
         words: WORDS,
     }
@@ -31,7 +31,7 @@ const WORDS: &[Word<'static>] = &[
         },
         beside: &[],
         without: &[],
-        help: "The number of the file in the torrent, from 0",
+        help: "Number of the file in the torrent (0-based), as check lists them",
     },
     Word {
         name: "index",
@@ -41,6 +41,6 @@ const WORDS: &[Word<'static>] = &[
         },
         beside: &[],
         without: &[],
-        help: "The number of the piece in the file, from 0",
+        help: "Number of the piece in the file (0-based)",
     },
 ];

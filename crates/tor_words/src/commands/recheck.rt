@@ -15,7 +15,7 @@ pub fn recheck_table() -> CommandTable<'static>
 {
     CommandTable {
         name: "recheck",
-        about: "Tells which pieces of a torrent are there and right",
+        about: "Check files on disk against a torrent",
         more: None,
         words: WORDS,
     }
@@ -27,21 +27,21 @@ const WORDS: &[Word<'static>] = &[
         takes: Takes::Nothing,
         beside: &[],
         without: &[],
-        help: "Tells of each file too: whether it is whole, bad, short or missing",
+        help: "Also print a line for each file: whole, bad, short or missing",
     },
     Word {
         name: "bad",
         takes: Takes::Nothing,
         beside: &[],
         without: &[],
-        help: "Tells of each file that is not whole",
+        help: "Also print a line for each file that is not whole",
     },
     Word {
         name: "null",
         takes: Takes::Nothing,
         beside: &[],
         without: &[],
-        help: "With --bad or --extra, prints the paths of these files alone, each ended by a zero byte",
+        help: "Print only the paths of these files, each ended by a zero byte; needs --bad or --extra",
     },
     JSON,
     Word {
@@ -52,35 +52,35 @@ const WORDS: &[Word<'static>] = &[
         },
         beside: &[],
         without: &[],
-        help: "How many workers hash: from 1 to 64, or auto",
+        help: "Number of workers: 1 to 64, or auto for one per processor",
     },
     Word {
         name: "keep-going",
         takes: Takes::Nothing,
         beside: &[],
         without: &[],
-        help: "Goes on past what cannot be read, which counts as not there",
+        help: "Go on past what cannot be read, as if it were missing",
     },
     Word {
         name: "no-links",
         takes: Takes::Nothing,
         beside: &[],
         without: &[],
-        help: "Follows no link below PATH: a file behind one is not there",
+        help: "Do not follow links below PATH; files behind them count as missing",
     },
     Word {
         name: "brief",
         takes: Takes::Nothing,
         beside: &[],
         without: &["json"],
-        help: "Leaves out the line of bits",
+        help: "Do not print the line of bits",
     },
     Word {
         name: "part",
         takes: Takes::Value { shown: "K/N" },
         beside: &[],
         without: &["files", "bad", "keep-going"],
-        help: "Looks for the pieces of one part of so many alone, as 0/16: parts are counted from 0",
+        help: "Check only part K of N (0-based), such as 0/16",
     },
     Word {
         name: "extra",
@@ -95,7 +95,7 @@ const WORDS: &[Word<'static>] = &[
             "part",
             "workers",
         ],
-        help: "Tells the files below PATH that the torrent does not have, and looks for no piece",
+        help: "List the files in PATH that are not in the torrent, and check no piece",
     },
     TORRENT,
     Word {
@@ -106,6 +106,6 @@ const WORDS: &[Word<'static>] = &[
         },
         beside: &[],
         without: &[],
-        help: "The file or folder that has the torrent's files",
+        help: "Folder with the torrent's files, or its only file",
     },
 ];

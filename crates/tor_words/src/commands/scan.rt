@@ -15,7 +15,7 @@ pub fn scan_table() -> CommandTable<'static>
 {
     CommandTable {
         name: "scan",
-        about: "Tells which files make would take, and what it would refuse",
+        about: "List the files that make would take, and what it would refuse",
         more: None,
         words: WORDS,
     }
@@ -34,7 +34,7 @@ const WORDS: &[Word<'static>] = &[
         takes: Takes::Nothing,
         beside: &[],
         without: &[],
-        help: "Prints the paths of the files alone, each ended by a zero byte",
+        help: "Print only the paths of the files to take, each ended by a zero byte",
     },
     JSON,
     Word {
@@ -45,9 +45,9 @@ const WORDS: &[Word<'static>] = &[
         },
         beside: &[],
         without: &[],
-        help: "The file or folder",
+        help: "File or folder to look at",
     },
 ];
 
 const LISTS: &str =
-    "The file, or - for standard input, that lists which files below PATH to look for, each path ended by a zero byte";
+    "Look only for the files that FILE lists (-: standard input): paths below PATH, each ended by a zero byte";

@@ -10,7 +10,7 @@ pub const TORRENT: Word<'static> = Word {
     },
     beside: &[],
     without: &[],
-    help: "The file with the torrent",
+    help: "Torrent file",
 };
 
 /// All in JSON, and so no paths that are ended by zero bytes.
@@ -19,7 +19,7 @@ pub const JSON: Word<'static> = Word {
     takes: Takes::Nothing,
     beside: &[],
     without: &["null"],
-    help: "Prints all that the lines tell, as one object of JSON",
+    help: "Print one JSON object instead of lines",
 };
 
 /// The file that is written.
@@ -28,5 +28,5 @@ pub const OUT: Word<'static> = Word {
     takes: Takes::Value { shown: "FILE" },
     beside: &[],
     without: &[],
-    help: "The file that the torrent goes to, instead of standard output",
+    help: "Write to FILE instead of standard output",
 };

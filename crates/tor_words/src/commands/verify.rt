@@ -14,7 +14,7 @@ pub fn verify_table() -> CommandTable<'static>
 {
     CommandTable {
         name: "verify",
-        about: "Tells whether a proof of a piece holds",
+        about: "Verify a proof of a piece",
         more: None,
         words: WORDS,
     }
@@ -29,7 +29,7 @@ const WORDS: &[Word<'static>] = &[
         },
         beside: &[],
         without: &[],
-        help: "The pieces root that the torrent has of the file: 64 hexadecimal digits",
+        help: "Root of the file in the torrent: 64 hexadecimal digits (see check --roots)",
     },
     Word {
         name: "length",
@@ -59,7 +59,7 @@ const WORDS: &[Word<'static>] = &[
         },
         beside: &[],
         without: &[],
-        help: "The file with the proof",
+        help: "File with the proof",
     },
     Word {
         name: "bytes",
@@ -69,6 +69,6 @@ const WORDS: &[Word<'static>] = &[
         },
         beside: &[],
         without: &[],
-        help: "A file with the bytes of the piece, which are judged too",
+        help: "File with the bytes of the piece, to check them too",
     },
 ];
