@@ -1,5 +1,5 @@
-"""The program in docs/MANUAL.md that keeps a folder up to date, over harmed folders and a web server: it asks for the
-bytes that are in pieces that are not right, for no other, and then all is there.
+"""The program docs/update.py, over harmed folders and a web server: it asks for the bytes that are in pieces that are
+not right, for no other, and then all is there.
 """
 import contextlib
 import http.server
@@ -15,10 +15,9 @@ from pathlib import Path
 from urllib.parse import quote, unquote
 
 from reference import BLOCK, bad_ranges, judge, marks_of, recheck_lines, side_by_side
-from support import Failure, Told, done, expect, expect_equal, expect_told, refused, run
+from support import Told, done, expect, expect_equal, expect_told, refused, run
 
-MANUAL = Path(__file__).resolve().parent.parent / 'docs' / 'MANUAL.md'
-SECTION = '### Keeping a folder up to date from a web server\n'
+UPDATE = Path(__file__).resolve().parent.parent / 'docs' / 'update.py'
 TIME_LIMIT = 60
 LENGTHS = {'-dash': 3, '100% é?#&+': 5000, 'a b/ c d ': 3 * BLOCK + 100, 'big': 200_000, 'empty': 0,
            'folder/below/three': BLOCK, 'folder/one': 100, 'folder/two': 40_000, 'line\nfeed': 20_000, 'z': 1}
@@ -117,7 +116,6 @@ class Mirror:
         told = run(program, ['make', *words, str(single)])
         expect_equal('the end of make', (0, b''), (told.status, told.err))
         self.read = judge(self.torrent.read_bytes())
-        (folder / 'update.py').write_text(script(), encoding='utf-8')
         (folder / 'tor').write_text(f'#!/bin/sh\nexec {shlex.quote(str(program))} "$@"\n')
         (folder / 'tor').chmod(0o755)
 
@@ -132,7 +130,7 @@ class Mirror:
         self.server.sent.clear()
         environment = {**os.environ, 'PATH': f'{self.folder}:{os.environ["PATH"]}', 'no_proxy': '127.0.0.1'}
         url = f'http://127.0.0.1:{self.server.server_port}/mirror'
-        words = [sys.executable, self.folder / 'update.py', torrent or self.torrent, self.place, url]
+        words = [sys.executable, UPDATE, torrent or self.torrent, self.place, url]
         told = subprocess.run(words, capture_output=True, timeout=TIME_LIMIT, check=False, env=environment)
         return Told(told.returncode, told.stdout, told.stderr)
 
@@ -160,14 +158,6 @@ class Mirror:
         expect_equal(f'{note}the files that differ', [], [path for path in there if there[path] != self.files[path]])
         marks = marks_of(self.read, [self.files[b'/'.join(file.path).decode()] for file in self.read.files])
         expect(self.program, ['recheck', str(self.torrent), str(self.place)], done(recheck_lines(marks)), note=note)
-
-
-def script():
-    section = MANUAL.read_text(encoding='utf-8').partition(SECTION)[2].partition('\n### ')[0]
-    blocks = re.findall(r'^```python\n(.*?)^```$', section, re.MULTILINE | re.DOTALL)
-    if len(blocks) != 1:
-        raise Failure(f'{len(blocks)} programs are in the section {SECTION}')
-    return blocks[0]
 
 
 def mends(program, folder, kind, files, all_harms):
