@@ -63,8 +63,10 @@ class Word:
 
 @dataclass
 class Command:
+    """A command; `more` is what its help ends with."""
     name: str
     help: str
+    more: str | None
     words: list
     usages: list = field(default_factory=list)
     like: str | None = None
@@ -159,7 +161,9 @@ def tables():
         known = shared | constants_of(text)
         for match in re.finditer(r'^    (?=CommandTable \{)', text, re.MULTILINE):
             table = Tokens(text[match.end():], known).value()
-            found[table['name']] = Command(table['name'], table['about'], [word_of(word) for word in table['words']])
+            more = table['more'] if table['more'] != 'None' else None
+            words = [word_of(word) for word in table['words']]
+            found[table['name']] = Command(table['name'], table['about'], more, words)
     return {name: found[name] for name in re.findall(r'\b(\w+)_table\(\)', source('commands.rt'))}
 
 
