@@ -19,7 +19,7 @@ STATUSES = {'tor scan films': 1, 'tor recheck --bad films.torrent /srv/films': 1
 
 
 def blocks():
-    """The blocks of commands of the page, each with what is printed below them, or None if the page does not show it."""
+    """The blocks of commands of the page, each with what it prints, or None if the page does not show that."""
     for language, text in FENCE.findall(PAGE.read_text(encoding='utf-8')):
         if text.startswith('$ '):
             command, _, printed = text[2:].partition('\n')
