@@ -4,6 +4,7 @@ import gzip
 import hashlib
 import itertools
 import os
+import re
 import shutil
 import struct
 import subprocess
@@ -1170,6 +1171,10 @@ def test_packages(program, folder):
     subprocess.run([unpacked / 'install', folder / 'prefix'], check=True, stdout=subprocess.DEVNULL)
     packed = {path.read_bytes() for path in (unpacked / 'programs').iterdir()}
     expect_equal('the program is in the archive', True, (folder / 'prefix/bin/tor').read_bytes() in packed)
+    dead = [(page.name, target) for page in [*unpacked.glob('*.md'), *unpacked.glob('docs/*.md')]
+            for target in re.findall(r'\]\(([^)#:]+)(?:#[^)]*)?\)', page.read_text(encoding='utf-8'))
+            if not (page.parent / target).exists()]
+    expect_equal('links to what the archive does not have', [], dead)
     expect_equal('its version', b'tor 1.2.0\n', subprocess.check_output([folder / 'prefix/bin/tor', '--version']))
     listed = subprocess.check_output(['dpkg-deb', '-c', folder / 'one' / package]).split()
     expect_equal('the command', True, b'./usr/bin/plovercasket' in listed and wanted != b'')
