@@ -119,9 +119,11 @@ def check_text(torrent: bytes) -> str:
 
 
 def check(torrent: bytes) -> Dict[str, Any]:
-    """What a torrent describes, by the keys `btih`, `btmh` (hexadecimal digits or None), `files` (a list of `length` in
-    bytes and `path`, a list of names), `kind` (`v1`, `v2` or `hybrid`), `name`, `piece_length` (bytes), `pieces` (how
-    many). Raises as check_text does.
+    """What a torrent describes, by the keys `kind` (`v1`, `v2` or `hybrid`), `name`, `piece_length` (bytes), `pieces`
+    (how many), `total` (the bytes of all files), `private`, `btih`, `btmh` (hexadecimal digits or None), `announce`,
+    `announce_list`, `url_list` (trackers and web seeds, or None), and `files`: a list of `path` (a list of names),
+    `length` (bytes), `root` (hexadecimal digits or None), `exec`, `hidden`, and `first_piece` and `pieces`, the pieces
+    with bytes of the file. docs/JSON.md says more of each. Raises as check_text does.
 
     The list has the whole path of each file, so of a hostile torrent it may take memory by the square of its length. If
     you need no list, call info_hashes, which judges the same in proportion to the torrent."""
