@@ -1178,6 +1178,10 @@ def test_packages(program, folder):
     expect_equal('its version', b'tor 1.2.0\n', subprocess.check_output([folder / 'prefix/bin/tor', '--version']))
     listed = subprocess.check_output(['dpkg-deb', '-c', folder / 'one' / package]).split()
     expect_equal('the command', True, b'./usr/bin/plovercasket' in listed and wanted != b'')
+    subprocess.run(['dpkg-deb', '-x', folder / 'one' / package, folder / 'package'], check=True)
+    changes = gzip.decompress((folder / 'package/usr/share/doc/plovercasket/changelog.gz').read_bytes()).splitlines()
+    ends = [line for line in changes if line.startswith(b' -- ')]
+    expect_equal('how many changes have a date', len(ends), sum(line.endswith(b' 00:00:00 +0000') for line in ends))
     expect_library(folder, [folder / 'one' / library, folder / 'one' / dev])
 
 
