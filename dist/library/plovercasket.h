@@ -93,8 +93,8 @@ typedef struct plover_hashes {
 /* Judges the torrent in `length` bytes, and writes what it describes to `report`, where `room` bytes are free: the one
  * JSON object that `tor check --json` prints, in UTF-8 on one line, without a line feed and without a zero byte at its
  * end. If the text is longer than the room, the answer is PLOVER_NO_ROOM and `outcome->length` says how much is wanted:
- * call again with a room of so many bytes. A first room of `length` and 1024 bytes is enough for most torrents, but not
- * for one of a thousand small files. Bytes of `report` past the text stay as they are, and all of it does if the answer
+ * call again with a room of so many bytes. A first room of `length` and 1024 bytes is enough for few files, but not
+ * for twenty short ones. Bytes of `report` past the text stay as they are, and all of it does if the answer
  * is not PLOVER_OK.
  *
  * The text has the whole path of each file. Of a hostile torrent, of many files below a folder with a long name, it has
