@@ -48,7 +48,7 @@ impl<F: Drop> DeepFolders<F> {
 }
 
 impl<F: AsRawFd + OpenFile + Drop> DeepFolders<F> {
-    /// Goes up until no more than so many are left; or lets go of all, if one is not where it was.
+    /// Goes up until no more than so many are left; or lets go of all, if none is to be left or one is not where it was.
     pub(crate) fn rise<R: Files<File = F>>(
         &mut self,
         rt: &R,
@@ -56,13 +56,22 @@ impl<F: AsRawFd + OpenFile + Drop> DeepFolders<F> {
         descriptors: &str,
         depth: usize,
     ) {
+        if depth == 0 {
+            self.let_go();
+            return;
+        }
         for _ in depth..self.numbers.len() {
             if self.rise_once(rt, alloc, descriptors).is_err() {
-                self.numbers.clear();
-                self.last = None;
+                self.let_go();
                 return;
             }
         }
+    }
+
+    // Keeps none.
+    fn let_go(&mut self) {
+        self.numbers.clear();
+        self.last = None;
     }
 
     // Goes up from the last folder to the one before, which has to be the one that was entered.

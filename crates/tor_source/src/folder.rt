@@ -16,7 +16,7 @@ ghost use Rattle.tor_tree.specs.Path.{path_cmp};
 use crate::faults::ScanFault;
 use crate::found::FoundFiles;
 use crate::lazy::{LazyFile, readers_of};
-use crate::listed_file::{ListedFile, ListedFiles, read_listed};
+use crate::listed_file::{ListedFiles, read_listed};
 use crate::named::find;
 use crate::place::Place;
 use crate::places::Places;
@@ -183,20 +183,6 @@ impl<R: Files + Clone + Drop> FolderSource<R> {
         ensures { IfOk result (λ source. source ≡ place.now ∷ []) }
     {
         FolderSource::of_places(rt, alloc, Places::one(alloc, place)?)
-    }
-
-    /// The one file `place`, which the system describes so, as if it was listed.
-    pub fn single_listed(
-        rt: &R,
-        alloc: Global,
-        place: &str,
-        file: &Metadata,
-    ) -> Result<FolderSource<R>, AllocError>
-        ensures { IfOk result (λ source. source ≡ place.now ∷ []) }
-    {
-        let mut listed = ListedFiles::none(alloc);
-        listed.push(ListedFile::of(file))?;
-        FolderSource::of_listed(rt, alloc, Places::one(alloc, place)?, listed)
     }
 
     /// The files at these places, of which nothing was told.
