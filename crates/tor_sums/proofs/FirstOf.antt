@@ -1,6 +1,6 @@
 -- The first that a list or a range has.
 use Rattle.std.proofs.Common.{◌≡◌, ◌<◌, ◌≤◌, ℕ, zero, suc, ◌+◌, List, [], ◌∷◌, ◌++◌, length, take, drop, get_or, Option}
-use Rattle.std.proofs.Common.{None, Some, refl, ap, sym, ◌∙◌, arith}
+use Rattle.std.proofs.Common.{None, Some, refl, ap, ap₂, sym, ◌∙◌, arith}
 use Rattle.std.proofs.lemmas.List.{drop_more, take-append-drop, take_more}
 use Rattle.std.specs.List.{range_with_len}
 use Rattle.std.specs.Option.{option_or}
@@ -79,3 +79,13 @@ first_none found a (suc k) (suc n) less none rest =
     let both = neither (found a) (first_of found (range_with_len (a + 1) k)) none in
     or_none (found a) (first_of found (range_with_len (a + 1) n)) both.0
     ∙ first_none found (a + 1) k n (omega arith) both.1 (λ j low high. rest j (omega arith) (omega arith))
+
+-- two that agree in a range have the same first there
+pub first_same : {B : Type 0} (found other : ℕ → Option B) (a n : ℕ)
+    → ((j : ℕ) → a ≤ j → j < a + n → found j ≡ other j)
+    → first_of found (range_with_len a n) ≡ first_of other (range_with_len a n)
+unfolding first_of
+first_same found other a zero same = refl
+first_same found other a (suc n) same =
+    ap₂ option_or (same a (omega arith) (omega arith))
+    (first_same found other (a + 1) n (λ j low high. same j (omega arith) (omega arith)))

@@ -19,6 +19,7 @@ pub mod TreeRoots
 pub mod UnitNodes
 pub mod UnitParts
 pub mod Waiting
+pub mod WantedBytes
 pub mod Whole
 pub mod WholeSlice
 pub mod Zeros

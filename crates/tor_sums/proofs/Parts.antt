@@ -70,23 +70,21 @@ module _ {F : Type 0} (facts : SourceFacts F) (plan : PlanFacts) where
     pub unit_there : (unit : PlanUnit) → IsUnitOf plan unit → HasParts facts unit.parts
     unit_there unit is = parts_there unit.parts (recursion_from_All (IsInFile plan.lengths) unit.parts is.parts)
 
--- each of the parts that a source has
-pub one_there : {F : Type 0} (facts : SourceFacts F) (parts other : List Part) (i : ℕ) (d : Part) → i < length parts
-    → parts ≡ other → HasParts facts other → HasPart facts (get_or parts i d)
-one_there facts parts other i d lt same have =
-    All-get_or (HasPart facts) parts i d lt
-    (All-from_recursion (HasPart facts) parts (subst (λ (ps : List Part). HasParts facts ps) (sym same) have))
+-- what holds of all parts holds of each
+pub one_of_parts : (P : Part → Type 0) (parts other : List Part) (i : ℕ) (d : Part) → i < length parts → parts ≡ other
+    → AllByRecursion P other → P (get_or parts i d)
+one_of_parts P parts other i d lt same all =
+    All-get_or P parts i d lt (All-from_recursion P parts (subst (λ (ps : List Part). AllByRecursion P ps) (sym same) all))
 
--- and those of each of the units that it has
-each_has : {F : Type 0} (facts : SourceFacts F) (units : List PlanUnit) → HasParts facts (parts_of units)
-    → AllByRecursion (λ unit. HasParts facts unit.parts) units
-each_has facts [] have = tt
-each_has facts (unit ∷ units) have =
-    let both = all_split (HasPart facts) unit.parts (parts_of units) have in
-    (both.0, each_has facts units both.1)
+-- and what holds of all parts of units, of all of each unit
+each_of_units : (P : Part → Type 0) (units : List PlanUnit) → AllByRecursion P (parts_of units)
+    → AllByRecursion (λ unit. AllByRecursion P unit.parts) units
+each_of_units P [] all = tt
+each_of_units P (unit ∷ units) all =
+    let both = all_split P unit.parts (parts_of units) all in (both.0, each_of_units P units both.1)
 
-pub unit_has : {F : Type 0} (facts : SourceFacts F) (units : List PlanUnit) (unit : PlanUnit) → Contains units unit
-    → HasParts facts (parts_of units) → HasParts facts unit.parts
-unit_has facts units unit is have =
-    let Has = λ (unit : PlanUnit). HasParts facts unit.parts in
-    All-contains Has units unit (All-from_recursion Has units (each_has facts units have)) is
+pub one_of_units : (P : Part → Type 0) (units : List PlanUnit) (unit : PlanUnit) → Contains units unit
+    → AllByRecursion P (parts_of units) → AllByRecursion P unit.parts
+one_of_units P units unit is all =
+    let Has = λ (unit : PlanUnit). AllByRecursion P unit.parts in
+    All-contains Has units unit (All-from_recursion Has units (each_of_units P units all)) is

@@ -1,11 +1,11 @@
 -- The first fault of a steady source, in the order in which it is asked.
-use Rattle.std.specs.Prelude.{◌≡◌, ◌⊎◌, ℕ, ◌==◌, List, [], ◌∷◌, length, map, ◌+◌, Option, None, Some, Result, Ok, Err}
-use Rattle.std.specs.Prelude.{option_map, if◌then◌else◌}
-use Rattle.std.specs.List.{enumerate_from, range_with_len}
+use Rattle.std.specs.Prelude.{◌≡◌, ◌⊎◌, ◌<◌, ◌≤◌, ℕ, ◌==◌, List, [], ◌∷◌, length, map, ◌+◌, Option, None, Some, Result}
+use Rattle.std.specs.Prelude.{Ok, Err, option_map, if◌then◌else◌}
+use Rattle.std.specs.List.{AllByRecursion, enumerate_from, flat_map, range_with_len}
 use Rattle.std.specs.Option.{option_or}
 use Rattle.tor_plan.specs.declared.units.Part.{Part}
 use Rattle.tor_plan.specs.declared.units.PlanUnit.{PlanUnit}
-use Rattle.tor_source.specs.Source.{SourceFacts, told_length}
+use Rattle.tor_source.specs.Source.{SourceFacts, bytes_from, told_length}
 use Rattle.tor_sums.specs.Contents.{contents_in}
 use Rattle.tor_sums.specs.declared.errors.EngineError.{EngineError}
 use Rattle.tor_sums.specs.declared.errors.EngineError.TheVariants.{Read, Changed, Missing, Resources}
@@ -71,6 +71,32 @@ unit_fault facts unit = first_of (part_fault facts) unit.parts
 -- the same of units. Their parts are read one after the other (profile)
 abbrev pub units_fault : {F : Type 0} → SourceFacts F → List PlanUnit → Option (EngineError F)
 units_fault facts units = first_of (unit_fault facts) units
+
+-- if a byte is wanted, which a file may not have: its fault, or past the end of the file that this was changed
+abbrev pub wanted_byte_fault : {F : Type 0} → SourceFacts F → ℕ → ℕ → Option (EngineError F)
+wanted_byte_fault facts file offset =
+    if length (bytes_from facts file offset) == 0 then Some (Changed file) else byte_fault facts file offset
+
+-- if those of a part are wanted
+abbrev pub wanted_part_fault : {F : Type 0} → SourceFacts F → Part → Option (EngineError F)
+wanted_part_fault facts part = first_of (wanted_byte_fault facts part.file) (range_with_len part.start part.length)
+
+-- the first fault of the bytes of a unit, where one past the end of its file counts as a change (profile)
+abbrev pub wanted_unit_fault : {F : Type 0} → SourceFacts F → PlanUnit → Option (EngineError F)
+wanted_unit_fault facts unit = first_of (wanted_part_fault facts) unit.parts
+
+-- the same of units (profile)
+abbrev pub wanted_units_fault : {F : Type 0} → SourceFacts F → List PlanUnit → Option (EngineError F)
+wanted_units_fault facts units = first_of (wanted_unit_fault facts) units
+
+-- no byte of a part fails past the end of the file
+abbrev pub PartFailsWithin : {F : Type 0} → SourceFacts F → Part → Type 0
+PartFailsWithin facts part = (offset : ℕ) → part.start ≤ offset → offset < part.start + part.length
+    → length (bytes_from facts part.file offset) ≡ 0 → facts.byte_fault part.file offset ≡ None
+
+-- no byte of these units fails past the end of its file (profile)
+abbrev pub FailsWithin : {F : Type 0} → SourceFacts F → List PlanUnit → Type 0
+FailsWithin facts units = AllByRecursion (PartFailsWithin facts) (flat_map (λ unit. unit.parts) units)
 
 -- memory was refused, or this is the fault (profile)
 abbrev pub IsFault : {F : Type 0} → Option (EngineError F) → EngineError F → Type 0

@@ -4,7 +4,7 @@ ghost use Rattle.tor_merkle.specs.declared.TheConstants.{MAX_LENGTH};
 ghost use Rattle.tor_plan.specs.PlanFacts.{PlanFacts};
 ghost use Rattle.tor_plan.specs.WithinEntries.{IsInFile};
 ghost use Rattle.tor_source.specs.Source.{SourceFacts};
-ghost use Rattle.tor_sums.specs.Fault.{IsFault, part_fault};
+ghost use Rattle.tor_sums.specs.Fault.{IsFault, PartFailsWithin, part_fault, wanted_part_fault};
 ghost use Rattle.tor_sums.specs.steps.Given.{IsGivenRead};
 ghost use Rattle.tor_sums.specs.steps.Reads.{AddsPart, HasPart};
 ghost use Rattle.tor_sums.specs.steps.Worker.{begun_of};
@@ -26,6 +26,8 @@ pub(crate) fn read_part<S: FileBytes>(
         IfOk result (λ _. AddsPart (S.is_steady source.now) plan part.now sums.old sums.new) }
     ensures fault { (facts : SourceFacts S.Fault) → S.is_steady source.now facts → HasPart facts part.now →
         MatchResult result (λ _. part_fault facts part.now ≡ None) (IsFault (part_fault facts part.now)) }
+    ensures wanted { (facts : SourceFacts S.Fault) → S.is_steady source.now facts → PartFailsWithin facts part.now →
+        MatchResult result (λ _. wanted_part_fault facts part.now ≡ None) (IsFault (wanted_part_fault facts part.now)) }
     ensures gave { (lengths : List ℕ) → IsInFile lengths part.now →
         IfErr result (IsGivenRead (S.answers source.now) lengths) }
 {

@@ -1,13 +1,14 @@
 //! What one unit sums up to in its file.
 ghost use Rattle.std.specs.Prelude.{◌≡◌, ◌≢◌, ◌^◌, ◌<◌, ◌≤◌, ◌++◌, ◌∷◌, [], ℕ, All, IsSomeAnd, List, None, Some, IfErr};
 ghost use Rattle.std.specs.Prelude.{IfOk, MatchResult, length, slice_index_or};
+ghost use Rattle.std.specs.List.{AllByRecursion};
 ghost use Rattle.std.specs.Option.{ForSome};
 ghost use Rattle.tor_merkle.specs.Layer.{IsPieceLength, piece_roots};
 ghost use Rattle.tor_plan.specs.PlanFacts.{IsPlan};
 ghost use Rattle.tor_plan.specs.WithinEntries.{IsInFile, unit_length};
 ghost use Rattle.tor_plan.specs.declared.units.Part.{Part};
 ghost use Rattle.tor_source.specs.Source.{SourceFacts};
-ghost use Rattle.tor_sums.specs.Fault.{IsFault, unit_fault};
+ghost use Rattle.tor_sums.specs.Fault.{IsFault, PartFailsWithin, unit_fault, wanted_unit_fault};
 ghost use Rattle.tor_sums.specs.steps.Given.{IsGivenRead};
 ghost use Rattle.tor_sums.specs.steps.Hashes.{level_in, level_of, node_over};
 ghost use Rattle.tor_sums.specs.steps.Reads.{HasParts};
@@ -157,6 +158,9 @@ pub fn sum_unit<S: FileBytes>(
     ensures number { IfOk result (λ summed. summed.unit ≡ number) }
     ensures fault { (facts : SourceFacts S.Fault) → S.is_steady source.now facts → HasParts facts unit.now.parts →
         MatchResult result (λ _. unit_fault facts unit.now ≡ None) (IsFault (unit_fault facts unit.now)) }
+    ensures wanted { (facts : SourceFacts S.Fault) → S.is_steady source.now facts →
+        AllByRecursion (PartFailsWithin facts) unit.now.parts → MatchResult result
+        (λ _. wanted_unit_fault facts unit.now ≡ None) (IsFault (wanted_unit_fault facts unit.now)) }
     ensures gave { (lengths : List ℕ) → All (IsInFile lengths) unit.now.parts →
         IfErr result (IsGivenRead (S.answers source.now) lengths) }
 {

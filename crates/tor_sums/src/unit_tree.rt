@@ -1,9 +1,10 @@
 //! One unit read, and its tree.
 ghost use Rattle.std.specs.Prelude.{◌≡◌, ◌++◌, [], ℕ, All, List, None, IfErr, IfOk, MatchResult};
+ghost use Rattle.std.specs.List.{AllByRecursion};
 ghost use Rattle.tor_plan.specs.PlanFacts.{IsPlan};
 ghost use Rattle.tor_plan.specs.WithinEntries.{IsInFile};
 ghost use Rattle.tor_source.specs.Source.{SourceFacts};
-ghost use Rattle.tor_sums.specs.Fault.{IsFault, unit_fault};
+ghost use Rattle.tor_sums.specs.Fault.{IsFault, PartFailsWithin, unit_fault, wanted_unit_fault};
 ghost use Rattle.tor_sums.specs.steps.Given.{IsGivenRead};
 ghost use Rattle.tor_sums.specs.steps.Reads.{HasParts};
 ghost use Rattle.tor_sums.specs.steps.Run.{IsUnitOf, ReadsUnit, TakesUnit};
@@ -36,6 +37,9 @@ pub(crate) fn read_unit<S: FileBytes>(
     ensures treed { IfOk result (λ _. IsTreed plan.now sums.new) }
     ensures fault { (facts : SourceFacts S.Fault) → S.is_steady source.now facts → HasParts facts unit.now.parts →
         MatchResult result (λ _. unit_fault facts unit.now ≡ None) (IsFault (unit_fault facts unit.now)) }
+    ensures wanted { (facts : SourceFacts S.Fault) → S.is_steady source.now facts →
+        AllByRecursion (PartFailsWithin facts) unit.now.parts → MatchResult result
+        (λ _. wanted_unit_fault facts unit.now ≡ None) (IsFault (wanted_unit_fault facts unit.now)) }
     ensures gave { (lengths : List ℕ) → All (IsInFile lengths) unit.now.parts →
         IfErr result (IsGivenRead (S.answers source.now) lengths) }
 {
@@ -70,6 +74,9 @@ pub fn tree_of_unit<S: FileBytes>(
         × TakesUnit (S.is_steady source.now) plan.now unit.now tree own × Owes plan.now (owed ++ own) worker.new) }
     ensures fault { (facts : SourceFacts S.Fault) → S.is_steady source.now facts → HasParts facts unit.now.parts →
         MatchResult result (λ _. unit_fault facts unit.now ≡ None) (IsFault (unit_fault facts unit.now)) }
+    ensures wanted { (facts : SourceFacts S.Fault) → S.is_steady source.now facts →
+        AllByRecursion (PartFailsWithin facts) unit.now.parts → MatchResult result
+        (λ _. wanted_unit_fault facts unit.now ≡ None) (IsFault (wanted_unit_fault facts unit.now)) }
     ensures gave { (lengths : List ℕ) → All (IsInFile lengths) unit.now.parts →
         IfErr result (IsGivenRead (S.answers source.now) lengths) }
 {

@@ -1,5 +1,5 @@
 //! What the units of a worker hash to, while their bytes are read or handed over.
-ghost use Rattle.std.specs.Prelude.{◌≡◌, ◌+◌, ◌*◌, ◌-◌, ◌<◌, ◌≤◌, ◌++◌, [], ℕ, List, IfErr, IfOk, MatchResult, OnOk};
+ghost use Rattle.std.specs.Prelude.{◌≡◌, ◌+◌, ◌*◌, ◌-◌, ◌<◌, ◌≤◌, ◌++◌, [], ℕ, List, IfErr, IfOk, MatchResult, None, OnOk};
 ghost use Rattle.std.specs.Prelude.{length, max, slice_index_or, take, if◌then◌else◌};
 ghost use Rattle.std.specs.Option.{ForSome};
 ghost use Rattle.tor_merkle.specs.declared.TheConstants.{MAX_LENGTH};
@@ -7,10 +7,10 @@ ghost use Rattle.tor_plan.specs.PlanFacts.{IsPlan, IsPlanPieceLength, PlanFacts}
 ghost use Rattle.tor_source.specs.Source.{SourceFacts, bytes_from};
 ghost use Rattle.tor_tree.specs.Kinds.{has_v1};
 ghost use Rattle.tor_v1.specs.Piece.{piece_sums, zeros};
-ghost use Rattle.tor_sums.specs.Fault.{IsFault, byte_fault};
+ghost use Rattle.tor_sums.specs.Fault.{IsFault, byte_fault, wanted_byte_fault};
 ghost use Rattle.tor_sums.specs.steps.Given.{IsGivenRead};
 ghost use Rattle.tor_sums.specs.Hasher.{IsTreeOf, tree_of};
-ghost use Rattle.tor_sums.specs.steps.ReadBytes.{IsFaultFree};
+ghost use Rattle.tor_sums.specs.steps.ReadBytes.{AreWantedFree, IsFaultFree};
 ghost use Rattle.tor_sums.specs.steps.Room.{HasRoom, count_in, length_of};
 
 use crate::errors::EngineError;
@@ -93,6 +93,9 @@ impl WorkerSums {
         ensures fault { (facts : SourceFacts S.Fault) → S.is_steady source.now facts →
             0 < length (bytes_from facts file start) →
             MatchResult result (IsFaultFree facts file start) (IsFault (byte_fault facts file start)) }
+        ensures wanted { (facts : SourceFacts S.Fault) → S.is_steady source.now facts →
+            (length (bytes_from facts file start) ≡ 0 → facts.byte_fault file start ≡ None) →
+            MatchResult result (AreWantedFree facts file start) (IsFault (wanted_byte_fault facts file start)) }
         ensures gave { (lengths : List ℕ) → file < length lengths → start < slice_index_or lengths file 0 →
             IfErr result (IsGivenRead (S.answers source.now) lengths) }
     {

@@ -4,8 +4,9 @@ use Rattle.std.specs.List.{AllByRecursion, flat_map}
 use Rattle.std.proofs.lemmas.List.{take_all}
 use Rattle.tor_sums.specs.Fault.{part_fault}
 use Rattle.tor_sums.specs.steps.Given.{IsGivenRead}
+use Rattle.tor_sums.specs.steps.Reads.{HasPart}
 use Rattle.tor_sums.proofs.PartReads.{all_append}
-use Rattle.tor_sums.proofs.Parts.{one_there}
+use Rattle.tor_sums.proofs.Parts.{one_of_parts}
 use Rattle.tor_engine.specs.Readable.{error_of_fault, read_faults}
 use Rattle.tor_engine.specs.steps.Readable.{listed}
 use Rattle.tor_engine.proofs.ReadFaults.{flat_more}
@@ -20,7 +21,8 @@ parts-preserved g c =
       failed = λ facts steady have.
           c.in_ok-add_fault.ensures
           ∙ ap₂ (λ xs ys. xs ++ ys) (c.parts.invariant.failed facts steady have)
-          (c.in-Ok.ensures.failed facts steady (one_there facts parts parts i _ c.parts-test.true refl have))
+          (c.in-Ok.ensures.failed facts steady
+          (one_of_parts (HasPart facts) parts parts i _ c.parts-test.true refl have))
           ∙ flat_more (λ part. read_faults (part_fault facts part)) parts i _ c.parts-test.true;
       given = λ lengths are.
           subst (λ (faults : List _). AllByRecursion (λ fault.
@@ -35,7 +37,7 @@ pub returns-in-Err-clause-refused : goal.returns-in-Err-clause-refused
 returns-in-Err-clause-refused g c = λ facts steady have.
     let parts = c.args.parts.now in
     absurd (c.in-Err.ensures.refused facts steady
-    (one_there facts parts parts c.parts.part-index _ c.parts-test.true refl have))
+    (one_of_parts (HasPart facts) parts parts c.parts.part-index _ c.parts-test.true refl have))
 
 pub returns-in-Err-clause-gave : goal.returns-in-Err-clause-gave
 returns-in-Err-clause-gave g c = λ lengths are.

@@ -2,7 +2,7 @@
 use Rattle.std.proofs.Common.{◌≡◌, ◌+◌, ◌-◌, ◌≤◌, length, None}
 use Rattle.std.specs.List.{range_with_len}
 use Rattle.tor_source.specs.Source.{SourceFacts, bytes_from}
-use Rattle.tor_sums.specs.Fault.{byte_fault, first_of}
+use Rattle.tor_sums.specs.Fault.{PartFailsWithin, byte_fault, first_of, wanted_byte_fault}
 use Rattle.tor_sums.specs.steps.Reads.{TakesPart}
 use Rattle.tor_sums.proofs.reading.read_part.Given as goal
 
@@ -14,6 +14,9 @@ invariant-reads g l = record {
   fault : (facts : SourceFacts g.row.S-Fault.Denot) → g.S.FileBytes.is_steady l.source facts →
       l.part.length ≤ length (bytes_from facts l.part.file l.part.start) →
       first_of (byte_fault facts l.part.file) (range_with_len l.part.start l.done) ≡ None;
+  wanted : (facts : SourceFacts g.row.S-Fault.Denot) → g.S.FileBytes.is_steady l.source facts →
+      PartFailsWithin facts l.part →
+      first_of (wanted_byte_fault facts l.part.file) (range_with_len l.part.start l.done) ≡ None;
 }
 
 abbrev pub decreases-reads : goal.decreases-reads

@@ -6,10 +6,10 @@ use Rattle.std.specs.List.{All}
 use Rattle.tor_plan.specs.WithinEntries.{IsInFile}
 use Rattle.tor_plan.specs.declared.units.Part.{Part}
 use Rattle.tor_v1.specs.Piece.{zeros}
-use Rattle.tor_sums.specs.Fault.{first_of, part_fault}
-use Rattle.tor_sums.specs.steps.Reads.{ReadsParts}
+use Rattle.tor_sums.specs.Fault.{PartFailsWithin, first_of, part_fault, wanted_part_fault}
+use Rattle.tor_sums.specs.steps.Reads.{HasPart, ReadsParts}
 use Rattle.tor_sums.proofs.FirstOf.{first_at, first_next, first_of_none}
-use Rattle.tor_sums.proofs.Parts.{one_there}
+use Rattle.tor_sums.proofs.Parts.{one_of_parts}
 use Rattle.tor_sums.proofs.UnitParts.{begun_more, parts_more, parts_none, unit_read}
 use Rattle.tor_sums.proofs.unit_tree.read_unit.Goals as goal
 
@@ -20,6 +20,7 @@ each-init g c = record {
       parts_none (g.S.FileBytes.is_steady c.args.source.now) c.args.plan.now before c.args.unit.now.zeros
       c.args.sums.now fresh.taken;
   faultless = λ facts steady have. first_of_none (part_fault facts);
+  wanted = λ facts steady within. first_of_none (wanted_part_fault facts);
 }
 
 pub read_part-requires-clause-small : goal.read_part-requires-clause-small
@@ -28,12 +29,24 @@ read_part-requires-clause-small g c = grind (arith, common_steps)
 pub returns-in-Err-clause-fault : goal.returns-in-Err-clause-fault
 returns-in-Err-clause-fault g c = λ facts steady have.
     elim (c.in-Err.ensures.fault facts steady
-    (one_there facts c.as_slice-parts.result.now c.args.unit.now.parts c.each.part-index _ c.each-test.true
+    (one_of_parts (HasPart facts) c.as_slice-parts.result.now c.args.unit.now.parts c.each.part-index _ c.each-test.true
     c.as_slice-parts.ensures have)) [
       | inl memory ↦ inl memory
       | inr fault ↦ inr (ap (first_of (part_fault facts)) (sym c.as_slice-parts.ensures)
           ∙ first_at (part_fault facts) c.as_slice-parts.result.now c.each.part-index _ c.in-Err.error
           c.each-test.true (c.each.invariant.faultless facts steady have) fault)
+    ]
+
+pub returns-in-Err-clause-wanted : goal.returns-in-Err-clause-wanted
+returns-in-Err-clause-wanted g c = λ facts steady within.
+    let parts = c.as_slice-parts.result.now in
+    elim (c.in-Err.ensures.wanted facts steady
+    (one_of_parts (PartFailsWithin facts) parts c.args.unit.now.parts c.each.part-index _ c.each-test.true
+    c.as_slice-parts.ensures within)) [
+      | inl memory ↦ inl memory
+      | inr fault ↦ inr (ap (first_of (wanted_part_fault facts)) (sym c.as_slice-parts.ensures)
+          ∙ first_at (wanted_part_fault facts) parts c.each.part-index _ c.in-Err.error c.each-test.true
+          (c.each.invariant.wanted facts steady within) fault)
     ]
 
 pub each-preserved : goal.each-preserved
@@ -55,7 +68,13 @@ each-preserved g c =
       faultless = λ facts steady have.
           first_next (part_fault facts) parts i _ c.each-test.true (old.faultless facts steady have)
           (c.in-Ok.ensures.fault facts steady
-          (one_there facts parts c.args.unit.now.parts i _ c.each-test.true c.as_slice-parts.ensures have));
+          (one_of_parts (HasPart facts) parts c.args.unit.now.parts i _ c.each-test.true c.as_slice-parts.ensures
+          have));
+      wanted = λ facts steady within.
+          first_next (wanted_part_fault facts) parts i _ c.each-test.true (old.wanted facts steady within)
+          (c.in-Ok.ensures.wanted facts steady
+          (one_of_parts (PartFailsWithin facts) parts c.args.unit.now.parts i _ c.each-test.true
+          c.as_slice-parts.ensures within));
     }
 
 pub returns-clause-read : goal.returns-clause-read
@@ -82,3 +101,9 @@ returns-clause-fault g c = λ facts steady have.
     let parts = c.as_slice-parts.result.now in
     let all = take_all c.each.part-index parts c.each-test.false ∙ c.as_slice-parts.ensures in
     ap (first_of (part_fault facts)) (sym all) ∙ c.each.invariant.faultless facts steady have
+
+pub returns-clause-wanted : goal.returns-clause-wanted
+returns-clause-wanted g c = λ facts steady within.
+    let parts = c.as_slice-parts.result.now in
+    let all = take_all c.each.part-index parts c.each-test.false ∙ c.as_slice-parts.ensures in
+    ap (first_of (wanted_part_fault facts)) (sym all) ∙ c.each.invariant.wanted facts steady within

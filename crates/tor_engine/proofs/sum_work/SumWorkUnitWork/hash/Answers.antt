@@ -5,10 +5,11 @@ use Rattle.std.proofs.lemmas.List.Elements.{All-contains}
 use Rattle.tor_plan.specs.WithinEntries.{IsInFile}
 use Rattle.tor_plan.specs.declared.units.PlanUnit.{PlanUnit}
 use Rattle.tor_sums.specs.steps.Given.{IsGivenRead}
+use Rattle.tor_sums.specs.steps.Reads.{HasPart}
 use Rattle.tor_engine.specs.Rows.{AreInFiles}
 use Rattle.tor_engine.proofs.GivenAnswers.{err_all}
 use Rattle.tor_sums.specs.steps.Run.{OwesUnit}
-use Rattle.tor_sums.proofs.Parts.{unit_has}
+use Rattle.tor_sums.proofs.Parts.{one_of_units}
 use Rattle.tor_sums.proofs.PaidSums.{if_ok_more, owe_next}
 use Rattle.tor_engine.proofs.sum_work.SumWorkUnitWork.hash.Goals as goal
 
@@ -30,7 +31,7 @@ returns-clause-stands g c = λ units before stands.
 pub returns-clause-fault : goal.returns-clause-fault
 returns-clause-fault g c = λ facts steady.
     c.sum_unit.ensures.fault facts steady.0
-    (unit_has facts c.args.self.now.units.now c.args.unit.now c.requires.unit.1 steady.1)
+    (one_of_units (HasPart facts) c.args.self.now.units.now c.args.unit.now c.requires.unit.1 steady.1)
 
 pub returns-clause-gave : goal.returns-clause-gave
 returns-clause-gave g c =
