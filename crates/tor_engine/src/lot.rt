@@ -3,7 +3,7 @@ ghost use Rattle.std.specs.Prelude.{◌≡◌, ◌≤◌, ◌++◌, None, IfErr,
 ghost use Rattle.std.specs.List.{flat_map};
 ghost use Rattle.tor_source.specs.Source.{SourceFacts};
 ghost use Rattle.tor_sums.specs.Contents.{contents_in};
-ghost use Rattle.tor_sums.specs.Fault.{IsFault, units_fault};
+ghost use Rattle.tor_sums.specs.Fault.{FailsWithin, IsFault, units_fault, wanted_units_fault};
 ghost use Rattle.tor_sums.specs.Given.{IsGivenRead};
 ghost use Rattle.tor_sums.specs.How.{IsHow};
 ghost use Rattle.tor_engine.specs.Rows.{AreInFiles, AreSameAt, HasBytesAt, IsRowOf, row_in, units_between};
@@ -33,8 +33,9 @@ pub struct PieceRow {
 
 /// What the pieces hash to of the units from the number `from` on, and before the number `to`: file i of the plan is
 /// file i of the source. If the source has at these units the bytes of contents of the plan's lengths, whatever it has
-/// elsewhere, the row is that of these contents, or the first fault in the order of these units is answered, whatever
-/// the `How`. No length is asked. A file that ends before the last byte that is wanted of it is answered as changed.
+/// elsewhere, the row is that of these contents. The first fault in the order of these units is answered, whatever the
+/// `How`: no length is asked, and a file that ends before a byte that is wanted of it is answered as changed, or by the
+/// fault of that byte, which a source may have past the end.
 pub fn hash_lot<S: Source, R: Threads + Sync>(
     rt: &R,
     alloc: Global,
@@ -54,6 +55,10 @@ pub fn hash_lot<S: Source, R: Threads + Sync>(
         (λ row. IsRowOf plan.now contents (units_between from to plan.now.units) row.hashes.items row.pieces.items
         × (units_fault facts (units_between from to plan.now.units) ≡ None))
         (IsFault (units_fault facts (units_between from to plan.now.units))) }
+    ensures wanted { (facts : SourceFacts S.Fault) → S.is_steady source.now facts →
+        FailsWithin facts (units_between from to plan.now.units) → MatchResult result
+        (λ _. wanted_units_fault facts (units_between from to plan.now.units) ≡ None)
+        (IsFault (wanted_units_fault facts (units_between from to plan.now.units))) }
     ensures whole { IfOk result (λ row. (contents : List (List ℕ)) × (map length contents ≡ plan.now.lengths)
         × IsRowOf plan.now contents (units_between from to plan.now.units) row.hashes.items row.pieces.items) }
     ensures there { (facts : SourceFacts S.Fault) → S.is_steady source.now facts →

@@ -1,12 +1,11 @@
 //! Units hashed for the sums of files.
 ghost use Rattle.std.specs.Prelude.{ℕ, Contains, List};
 ghost use Rattle.tor_plan.specs.PlanFacts.{IsPlan};
-ghost use Rattle.tor_sums.specs.Fault.{unit_fault};
+ghost use Rattle.tor_sums.specs.Fault.{FailsWithin, wanted_unit_fault};
 ghost use Rattle.tor_sums.specs.steps.Given.{IsGivenRead};
-ghost use Rattle.tor_sums.specs.steps.Reads.{HasParts};
 ghost use Rattle.tor_sums.specs.steps.Each.{OweEach};
 ghost use Rattle.tor_sums.specs.steps.Owing.{Owes};
-ghost use Rattle.tor_sums.specs.steps.Run.{IsUnitToSum, OwesUnit, SumsUpUnit, parts_of};
+ghost use Rattle.tor_sums.specs.steps.Run.{IsUnitToSum, OwesUnit, SumsUpUnit};
 ghost use Rattle.tor_engine.specs.Rows.{AreInFiles};
 
 use crate::unit_work::UnitWork;
@@ -33,9 +32,9 @@ impl<'a, S: FileBytes> UnitWork for SumWork<'a, S> {
 
     ghost may_hash = { λ work unit. IsUnitToSum work.plan.now unit × Contains work.units.now unit };
 
-    ghost is_steady = { λ work facts. S.is_steady work.source.now facts × HasParts facts (parts_of work.units.now) };
+    ghost is_steady = { λ work facts. S.is_steady work.source.now facts × FailsWithin facts work.units.now };
 
-    ghost fault = { λ _ facts unit. unit_fault facts unit };
+    ghost fault = { λ _ facts unit. wanted_unit_fault facts unit };
 
     ghost sums_up = { λ work unit sums. SumsUpUnit (S.is_steady work.source.now) work.plan.now unit sums };
 

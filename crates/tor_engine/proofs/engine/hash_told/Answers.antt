@@ -7,10 +7,9 @@ use Rattle.tor_plan.specs.declared.forests.Run.{Run}
 use Rattle.tor_plan.specs.declared.units.PlanUnit.{PlanUnit}
 use Rattle.tor_plan.proofs.ProvedLaws.{trees_are_runs}
 use Rattle.tor_sums.specs.Contents.{contents_in}
-use Rattle.tor_sums.specs.Fault.{units_fault}
+use Rattle.tor_sums.specs.Fault.{FailsWithin, wanted_units_fault}
 use Rattle.tor_sums.specs.declared.unit_sums.UnitSums.{UnitSums}
 use Rattle.tor_sums.specs.steps.Roots.{roots_of_trees}
-use Rattle.tor_sums.specs.steps.Reads.{HasParts}
 use Rattle.tor_sums.specs.steps.Run.{IsUnitToSum, parts_of}
 use Rattle.tor_engine.specs.Rows.{AreInFiles}
 use Rattle.tor_engine.proofs.GivenAnswers.{not_missing}
@@ -19,6 +18,7 @@ use Rattle.tor_engine.proofs.PlanFaults.{fault_of_plan}
 use Rattle.tor_sums.proofs.PlanLevels.{units_to_sum}
 use Rattle.tor_engine.proofs.ReadContents.{contents_there, plan_there}
 use Rattle.tor_engine.proofs.UnitRuns.{units_summed}
+use Rattle.tor_sums.proofs.WantedBytes.{parts_within, same_units}
 use Rattle.tor_sums.proofs.Whole.{lengths_hold}
 use Rattle.tor_engine.proofs.engine.hash_told.Goals as goal
 
@@ -38,12 +38,13 @@ hash_units-requires-clause-runs g c = λ κs lives.
 pub returns-in-Err-clause-summed : goal.returns-in-Err-clause-summed
 returns-in-Err-clause-summed g c = λ facts steady none.
     let plan = c.args.plan.now in
-    let there = subst (λ (units : List PlanUnit). HasParts facts (parts_of units)) (sym c.units-units.ensures.value)
-    (plan_there facts plan (lengths_hold facts plan none) c.units-units.ensures.planned) in
-    elim (c.in-Err.ensures.fault facts (steady, there)) [
+    let all = plan_there facts plan (lengths_hold facts plan none) c.units-units.ensures.planned in
+    let within = subst (λ (units : List PlanUnit). FailsWithin facts units) (sym c.units-units.ensures.value)
+    (parts_within facts (parts_of plan.units) all) in
+    elim (c.in-Err.ensures.fault facts (steady, within)) [
       | inl memory ↦ inl memory
-      | inr fault ↦ inr (sym (ap (units_fault facts) c.units-units.ensures.value
-          ∙ fault_of_plan facts plan c.units-units.ensures.planned) ∙ fault)
+      | inr fault ↦ inr (sym (ap (wanted_units_fault facts) c.units-units.ensures.value
+          ∙ same_units facts plan.units all ∙ fault_of_plan facts plan c.units-units.ensures.planned) ∙ fault)
     ]
 
 pub sums_of_units-requires : goal.sums_of_units-requires
@@ -63,12 +64,13 @@ returns-clause-summed g c = λ facts steady none.
     c.in-Ok.hashed.0.items c.deref.result.now c.units-units.ensures.value c.deref.ensures.value
     c.in-Ok.ensures.summed in
     let all = plan_there facts plan fit c.units-units.ensures.planned in
-    let there = subst (λ (units : List PlanUnit). HasParts facts (parts_of units)) (sym c.units-units.ensures.value)
-    all in
+    let within = subst (λ (units : List PlanUnit). FailsWithin facts units) (sym c.units-units.ensures.value)
+    (parts_within facts (parts_of plan.units) all) in
     let hashed = summed.sums contents fit (summed.are.steady facts steady all) in (
       c.in_ok-sums.ensures.summed contents fit hashed,
-      sym (ap (units_fault facts) c.units-units.ensures.value
-          ∙ fault_of_plan facts plan c.units-units.ensures.planned) ∙ c.in-Ok.ensures.fault facts (steady, there),
+      sym (ap (wanted_units_fault facts) c.units-units.ensures.value
+          ∙ same_units facts plan.units all ∙ fault_of_plan facts plan c.units-units.ensures.planned)
+          ∙ c.in-Ok.ensures.fault facts (steady, within),
     )
 
 pub returns-clause-whole : goal.returns-clause-whole

@@ -1,5 +1,5 @@
 -- the units of the lot
-use Rattle.std.proofs.Common.{List, length, ap, refl, subst, sym, ◌∙◌}
+use Rattle.std.proofs.Common.{List, length, inl, inr, ap, refl, subst, sym, ◌∙◌}
 use Rattle.std.proofs.lemmas.List.Elements.{All-contains_itself}
 use Rattle.std.specs.List.{All}
 use Rattle.tor_plan.specs.Forest.{AreRuns}
@@ -7,15 +7,15 @@ use Rattle.tor_plan.specs.declared.forests.Run.{Run}
 use Rattle.tor_plan.specs.declared.units.PlanUnit.{PlanUnit}
 use Rattle.tor_tree.specs.declared.kinds.Kind.{Kind}
 use Rattle.tor_sums.specs.Contents.{contents_in}
-use Rattle.tor_sums.specs.Fault.{IsFault, units_fault}
+use Rattle.tor_sums.specs.Fault.{FailsWithin, IsFault, wanted_units_fault}
 use Rattle.tor_engine.specs.Rows.{AreInFiles, units_between}
-use Rattle.tor_sums.specs.steps.Reads.{HasParts}
 use Rattle.tor_engine.specs.steps.RowSums.{IsRowOfSums}
 use Rattle.tor_sums.specs.steps.Run.{IsUnitToSum, parts_of}
 use Rattle.tor_engine.proofs.LotRows.{between_in_files, between_there, between_to_sum, contents_between, have_same}
 use Rattle.tor_engine.proofs.LotRows.{row_is}
 use Rattle.tor_engine.proofs.RunRoots.{no_runs}
 use Rattle.tor_engine.proofs.UnitRuns.{units_summed}
+use Rattle.tor_sums.proofs.WantedBytes.{parts_within, same_units}
 use Rattle.tor_engine.proofs.lot.hash_lot.Goals as goal
 
 pub hash_units-requires-clause-units : goal.hash_units-requires-clause-units
@@ -36,10 +36,21 @@ pub returns-in-Err-clause-summed : goal.returns-in-Err-clause-summed
 returns-in-Err-clause-summed g c = λ facts contents steady fit same.
     let plan = c.args.plan.now in
     let is = c.units_between-units.ensures ∙ ap (units_between c.args.from c.args.to) c.units.ensures.value in
-    let there = subst (λ (units : List PlanUnit). HasParts facts (parts_of units)) (sym is)
-    (between_there facts plan contents fit c.units.ensures.planned c.args.from c.args.to same) in
-    subst (λ (units : List PlanUnit). IsFault (units_fault facts units) c.in-Err.error) is
-    (c.in-Err.ensures.fault facts (steady, there))
+    let own = units_between c.args.from c.args.to plan.units in
+    let there = between_there facts plan contents fit c.units.ensures.planned c.args.from c.args.to same in
+    let within = subst (λ (units : List PlanUnit). FailsWithin facts units) (sym is)
+    (parts_within facts (parts_of own) there) in
+    elim (c.in-Err.ensures.fault facts (steady, within)) [
+      | inl memory ↦ inl memory
+      | inr fault ↦ inr (sym (ap (wanted_units_fault facts) is ∙ same_units facts own there) ∙ fault)
+    ]
+
+pub returns-in-Err-clause-wanted : goal.returns-in-Err-clause-wanted
+returns-in-Err-clause-wanted g c = λ facts steady within.
+    let is = c.units_between-units.ensures ∙ ap (units_between c.args.from c.args.to) c.units.ensures.value in
+    subst (λ (units : List PlanUnit). IsFault (wanted_units_fault facts units) c.in-Err.error) is
+    (c.in-Err.ensures.fault facts
+    (steady, subst (λ (units : List PlanUnit). FailsWithin facts units) (sym is) within))
 
 pub returns-clause-summed : goal.returns-clause-summed
 returns-clause-summed g c = λ facts contents steady fit same.
@@ -58,11 +69,19 @@ returns-clause-summed g c = λ facts contents steady fit same.
     same (hashed.are.steady facts steady there) in (
       row_is is_steady plan planned own sums c.deref.result.now c.in_ok-row.row c.deref.ensures.value hashed made
           contents fit have,
-      sym (ap (units_fault facts) is) ∙ c.in-Ok.ensures.fault facts (
+      sym (ap (wanted_units_fault facts) is ∙ same_units facts own there) ∙ c.in-Ok.ensures.fault facts (
         steady,
-        subst (λ (units : List PlanUnit). HasParts facts (parts_of units)) (sym is) there,
+        subst (λ (units : List PlanUnit). FailsWithin facts units) (sym is)
+            (parts_within facts (parts_of own) there),
       ),
     )
+
+pub returns-clause-wanted : goal.returns-clause-wanted
+returns-clause-wanted g c = λ facts steady within.
+    let is = c.units_between-units.ensures ∙ ap (units_between c.args.from c.args.to) c.units.ensures.value in
+    sym (ap (wanted_units_fault facts) is)
+    ∙ c.in-Ok.ensures.fault facts
+    (steady, subst (λ (units : List PlanUnit). FailsWithin facts units) (sym is) within)
 
 pub returns-clause-there : goal.returns-clause-there
 returns-clause-there g c = λ facts steady.

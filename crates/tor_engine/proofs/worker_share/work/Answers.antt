@@ -1,17 +1,17 @@
 -- what the units of a share sum up to
-use Rattle.std.proofs.Common.{◌<◌, List, length, subst, sym}
+use Rattle.std.proofs.Common.{◌<◌, List, length, inl, inr, ap, subst, sym, ◌∙◌}
 use Rattle.std.proofs.lemmas.List.Elements.{All-contains_itself, All-from_recursion}
 use Rattle.std.specs.List.{All, AllByRecursion}
 use Rattle.tor_plan.specs.declared.units.PlanUnit.{PlanUnit}
-use Rattle.tor_sums.specs.Fault.{IsFault, unit_fault}
+use Rattle.tor_sums.specs.Fault.{FailsWithin, wanted_unit_fault}
 use Rattle.tor_sums.specs.UnitSums.{unit_at}
 use Rattle.tor_sums.specs.declared.unit_sums.UnitSums.{UnitSums}
-use Rattle.tor_sums.specs.steps.Reads.{HasParts}
 use Rattle.tor_sums.specs.steps.Run.{IsUnitToSum, SumsUpUnit, parts_of}
 use Rattle.tor_engine.specs.Rows.{AreInFiles}
 use Rattle.tor_engine.specs.steps.Taken.{IsSumOf}
 use Rattle.tor_engine.proofs.Counts.{each_more}
 use Rattle.tor_sums.proofs.PlanLevels.{units_to_sum}
+use Rattle.tor_sums.proofs.WantedBytes.{parts_within, same_unit_at}
 use Rattle.tor_engine.proofs.LotRows.{units_in_files}
 use Rattle.tor_engine.proofs.ReadContents.{plan_there}
 use Rattle.tor_engine.proofs.UnitSummed.{are_unit_sums}
@@ -36,12 +36,16 @@ returns-in-Ok-clause-summed g c = λ facts steady fit.
 
 pub returns-in-Err-clause-fault : goal.returns-in-Err-clause-fault
 returns-in-Err-clause-fault g c = λ facts steady fit.
-    let there = subst (λ (units : List PlanUnit). HasParts facts (parts_of units)) (sym c.units-units.ensures.value)
-    (plan_there facts c.args.plan.now fit c.units-units.ensures.planned) in
-    subst (λ (units : List PlanUnit). IsFault (unit_fault facts (unit_at units c.in-Err.failure.unit))
-    c.in-Err.failure.error)
-    c.units-units.ensures.value
-    (c.in-Err.ensures.taken.steady facts (steady, there))
+    let plan = c.args.plan.now in
+    let number = c.in-Err.failure.unit in
+    let all = plan_there facts plan fit c.units-units.ensures.planned in
+    let within = subst (λ (units : List PlanUnit). FailsWithin facts units) (sym c.units-units.ensures.value)
+    (parts_within facts (parts_of plan.units) all) in
+    elim (c.in-Err.ensures.taken.steady facts (steady, within)) [
+      | inl memory ↦ inl memory
+      | inr fault ↦ inr (sym (ap (λ units. wanted_unit_fault facts (unit_at units number)) c.units-units.ensures.value
+          ∙ same_unit_at facts plan.units all number) ∙ fault)
+    ]
 
 pub returns-in-Ok-clause-within : goal.returns-in-Ok-clause-within
 returns-in-Ok-clause-within g c =

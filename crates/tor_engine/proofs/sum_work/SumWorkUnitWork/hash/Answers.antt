@@ -1,11 +1,11 @@
--- the unit is one of those whose bytes the source has
+-- the unit is one of those of which no byte fails past the end of its file
 use Rattle.std.proofs.Common.{◌++◌, ℕ, List}
 use Rattle.std.specs.List.{All}
 use Rattle.std.proofs.lemmas.List.Elements.{All-contains}
 use Rattle.tor_plan.specs.WithinEntries.{IsInFile}
 use Rattle.tor_plan.specs.declared.units.PlanUnit.{PlanUnit}
+use Rattle.tor_sums.specs.Fault.{PartFailsWithin}
 use Rattle.tor_sums.specs.steps.Given.{IsGivenRead}
-use Rattle.tor_sums.specs.steps.Reads.{HasPart}
 use Rattle.tor_engine.specs.Rows.{AreInFiles}
 use Rattle.tor_engine.proofs.GivenAnswers.{err_all}
 use Rattle.tor_sums.specs.steps.Run.{OwesUnit}
@@ -30,8 +30,8 @@ returns-clause-stands g c = λ units before stands.
 
 pub returns-clause-fault : goal.returns-clause-fault
 returns-clause-fault g c = λ facts steady.
-    c.sum_unit.ensures.fault facts steady.0
-    (one_of_units (HasPart facts) c.args.self.now.units.now c.args.unit.now c.requires.unit.1 steady.1)
+    c.sum_unit.ensures.wanted facts steady.0
+    (one_of_units (PartFailsWithin facts) c.args.self.now.units.now c.args.unit.now c.requires.unit.1 steady.1)
 
 pub returns-clause-gave : goal.returns-clause-gave
 returns-clause-gave g c =
