@@ -2,7 +2,7 @@
 ghost use Rattle.std.specs.Prelude.{◌≡◌, ◌<◌, ℕ, None, IfErr, IfOk, List, MatchResult, OnOk, length, map};
 ghost use Rattle.tor_source.specs.Source.{SourceFacts};
 ghost use Rattle.tor_sums.specs.Contents.{contents_in};
-ghost use Rattle.tor_sums.specs.Fault.{IsFault, units_fault};
+ghost use Rattle.tor_sums.specs.Fault.{FailsWithin, IsFault, units_fault, wanted_units_fault};
 ghost use Rattle.tor_sums.specs.Given.{IsGivenRead};
 ghost use Rattle.tor_sums.specs.How.{IsHow};
 ghost use Rattle.tor_engine.specs.Rows.{AreInFiles, AreSameAt, HasBytesAt, IsRowOf};
@@ -34,6 +34,10 @@ pub fn hash_dealt<S: Source, R: Threads + Sync>(
         (λ row. IsRowOf plan.now contents (dealt lots lot plan.now.units) row.hashes.items row.pieces.items
         × (units_fault facts (dealt lots lot plan.now.units) ≡ None))
         (IsFault (units_fault facts (dealt lots lot plan.now.units))) }
+    ensures wanted { (facts : SourceFacts S.Fault) → S.is_steady source.now facts →
+        FailsWithin facts (dealt lots lot plan.now.units) → MatchResult result
+        (λ _. wanted_units_fault facts (dealt lots lot plan.now.units) ≡ None)
+        (IsFault (wanted_units_fault facts (dealt lots lot plan.now.units))) }
     ensures whole { IfOk result (λ row. (contents : List (List ℕ)) × (map length contents ≡ plan.now.lengths)
         × IsRowOf plan.now contents (dealt lots lot plan.now.units) row.hashes.items row.pieces.items) }
     ensures there { (facts : SourceFacts S.Fault) → S.is_steady source.now facts →
