@@ -2,6 +2,7 @@ pub mod Names
 pub mod OwnSpans
 pub mod PieceRows
 pub mod ReadableBits
+pub mod SeenFirst
 pub mod FilesToCut
 pub mod RecheckFaults
 pub mod Rechecked

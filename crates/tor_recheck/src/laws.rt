@@ -1,11 +1,17 @@
 //! Laws over the definitions, as contracts of functions that do nothing.
 ghost use Rattle.std.specs.Prelude.{◌≡◌, ◌≢◌, ◌↔◌, ◌<◌, ◌≤◌, ℕ, Bool, List, Option, [], false, length, map, None, true};
-ghost use Rattle.std.specs.Prelude.{option_map, slice_index_or, sum_by, unwrap_or};
+ghost use Rattle.std.specs.Prelude.{Some, option_map, slice_index_or, sum_by, unwrap_or};
 ghost use Rattle.std.specs.List.{flat_map, range_with_len};
+ghost use Rattle.tor_engine.specs.Readable.{error_of_fault};
 ghost use Rattle.tor_view.specs.Files.{AllHold, AreThere, file_spans, found_at};
 ghost use Rattle.tor_view.specs.Files.{held_pieces, no_span};
 ghost use Rattle.tor_view.specs.Bitfield.{bitfield, set_count};
 ghost use Rattle.tor_recheck.specs.Lots.{in_lot};
+ghost use Rattle.tor_recheck.specs.Readable.{faults_seen, readable_held, readable_pieces};
+ghost use Rattle.tor_recheck.specs.Recheck.{first_fault, of_engine_error};
+ghost use Rattle.tor_source.specs.Source.{SourceFacts};
+ghost use Rattle.tor_sums.specs.Contents.{contents_in};
+ghost use Rattle.tor_sums.specs.Fault.{first_of};
 ghost use Rattle.tor_view.specs.Pieces.{IsCut};
 ghost use Rattle.tor_view.specs.declared.files.FileState.TheVariants.{Bad, Whole};
 ghost use Rattle.tor_recheck.specs.declared.rechecking.TheConstants.{SPAN};
@@ -29,6 +35,17 @@ pub fn right_pieces_hold()
         slice_index_or (held_pieces view contents) piece false ≡ true }
     ensures merkle { (view : View) (contents : List (List ℕ)) → has_v2 view.kind ≡ true →
         held_pieces view contents ≡ merkle_pieces view.piece_length view.files contents }
+{}
+
+/// A recheck that keeps going sees first what one that stops answers. If it sees nothing, the pieces that can be read
+/// are those that are there and right, and so are those that hold.
+pub fn rechecks_agree<F>()
+    ensures first { (facts : SourceFacts F) (view : View) → first_fault facts view
+        ≡ option_map (λ fault. of_engine_error (error_of_fault fault)) (first_of Some (faults_seen facts view)) }
+    ensures right { (facts : SourceFacts F) (view : View) → IsCut view → faults_seen facts view ≡ [] →
+        readable_pieces facts view ≡ verified_pieces view (contents_in facts (length view.files)) }
+    ensures held { (facts : SourceFacts F) (view : View) → IsCut view → faults_seen facts view ≡ [] →
+        readable_held facts view ≡ held_pieces view (contents_in facts (length view.files)) }
 {}
 
 /// A file that is not empty is whole exactly if the pieces that have bytes of it hold, whichever files are short or
