@@ -1,13 +1,14 @@
 -- Which fault of the program a fault of a lot is, and why parts are not joined.
-use Rattle.std.proofs.Common.{◌≤◌, ◌≡◌, ◌≢◌, ◌∙◌, ℕ, List, Option, ap, inl, length, refl, subst, sym}
+use Rattle.std.proofs.Common.{◌≤◌, ◌≢◌, ◌∙◌, ℕ, List, ap, inl, length, refl, subst, sym}
 use Rattle.std.specs.declared.io.Error.{Error}
 use Rattle.tor_meta.specs.MakeError.{of_engine_error}
-use Rattle.tor_parts.specs.OwnFiles.{IsGivenOwn}
+use Rattle.tor_meta.specs.Lots.{plan_of_text}
+use Rattle.tor_parts.specs.Dealing.{dealt}
+use Rattle.tor_parts.specs.OwnFiles.{IsGivenOwn, IsOfFiles, files_of}
 use Rattle.tor_source.specs.Answers.{system_answers}
 use Rattle.tor_sums.specs.declared.errors.EngineError.{EngineError}
 use Rattle.tor_sums.specs.declared.errors.EngineError.TheVariants as engine
 use Rattle.tor_sums.specs.How.{IsHow}
-use Rattle.tor_sums.specs.declared.how.How.{How}
 use Rattle.tor_tree.specs.FileList.{lengths_of}
 use Rattle.tor_meta.specs.Listing.{IsPlanRefusal}
 use Rattle.tor_meta.specs.declared.listing_error.PlanError.{PlanError}
@@ -16,7 +17,7 @@ use Rattle.tor_cli.specs.Streams.{IsUntouched, Streams}
 use Rattle.tor_source.specs.declared.input.TheConstants.{MAX_INPUT_LENGTH}
 use Rattle.tor_cli.specs.declared.lots.lot_words.LotOptions.{LotOptions}
 use Rattle.tor_cli.specs.lots.Lots.{IsFaultOfParts, IsJoinFault, IsNoLot, IsNotJoined, OfPlan, StopsJoining, StopsLot}
-use Rattle.tor_cli.specs.lots.Lots.{file_of_lot, number_of_part, part_text, words_of_parts}
+use Rattle.tor_cli.specs.lots.Lots.{number_of_part, part_text, words_of_parts}
 use Rattle.tor_cli.specs.declared.fault.Fault.{Fault}
 use Rattle.tor_cli.specs.declared.fault.Fault.TheVariants as faults
 use Rattle.tor_cli.specs.declared.lots.join_words.JoinOptions.{JoinOptions}
@@ -25,18 +26,19 @@ use Rattle.tor_meta.specs.declared.join_error.JoinError.TheVariants as joins
 use Rattle.tor_meta.specs.declared.listing_error.PlanError.TheVariants as plans
 
 -- a fault of a file is told, and want of memory is the program's own
-pub no_lot : (how : How) (out : Option (List ℕ)) (plan : List ℕ) → IsHow how → (fault : EngineError Error)
-    → OfPlan plan (λ text. IsGivenOwn (system_answers (length text.list.files)) (lengths_of text.list.files) fault)
-    → IsNoLot how out plan (of_make_error (of_engine_error fault))
-no_lot how out plan allowed (engine.Read file start why) (text, is, same, gave) =
-    (allowed, (text, is, same, (engine.Read file start why, refl, gave)))
-no_lot how out plan allowed (engine.Changed file) (text, is, same, gave) =
-    (allowed, (text, is, same, (engine.Changed file, refl, gave)))
-no_lot how out plan allowed (engine.Missing file) (text, is, same, gave) =
-    (allowed, (text, is, same, (engine.Missing file, refl, gave)))
-no_lot how out plan allowed (engine.StreamTooLong file) (text, is, same, gave) =
-    (allowed, (text, is, same, (engine.StreamTooLong file, refl, gave)))
-no_lot how out plan allowed engine.Resources given = tt
+pub no_lot : (options : LotOptions) (plan : List ℕ) → IsHow options.how → (fault : EngineError Error)
+    → OfPlan plan (λ text. IsGivenOwn (system_answers (length text.list.files)) (lengths_of text.list.files) fault
+    × IsOfFiles (files_of (dealt options.lot.lots options.lot.number (plan_of_text text).units)) fault)
+    → IsNoLot options plan (of_make_error (of_engine_error fault))
+no_lot options plan allowed (engine.Read file start why) (text, is, same, (gave, own)) =
+    (allowed, (text, is, same, (engine.Read file start why, refl, gave, own)))
+no_lot options plan allowed (engine.Changed file) (text, is, same, (gave, own)) =
+    (allowed, (text, is, same, (engine.Changed file, refl, gave, own)))
+no_lot options plan allowed (engine.Missing file) (text, is, same, (gave, own)) =
+    (allowed, (text, is, same, (engine.Missing file, refl, gave, own)))
+no_lot options plan allowed (engine.StreamTooLong file) (text, is, same, (gave, own)) =
+    (allowed, (text, is, same, (engine.StreamTooLong file, refl, gave, own)))
+no_lot options plan allowed engine.Resources given = tt
 
 module _ (options : JoinOptions) (s : Streams) (untouched : IsUntouched s) where
   of_parts : (error : JoinError) → error ≢ joins.Memory → (fault : Fault)
@@ -80,16 +82,16 @@ module _ (options : JoinOptions) (s : Streams) (untouched : IsUntouched s) where
   not_joined (joins.Missing lots) fault same not = of_parts (joins.Missing lots) (λ e. cc) fault same not
 
 -- a plan that is refused is told as it is, and want of memory is the program's own
-pub no_plan : (how : How) (out : Option (List ℕ)) (plan : List ℕ) → IsHow how → (error : PlanError)
-    → IsPlanRefusal plan error → IsNoLot how out plan (of_plan_error error)
-no_plan how out plan allowed plans.NotAPlan why = (allowed, (why, λ same. cc))
-no_plan how out plan allowed (plans.Refused refusal) why = (allowed, (why, λ same. cc))
-no_plan how out plan allowed plans.Memory why = tt
+pub no_plan : (options : LotOptions) (plan : List ℕ) → IsHow options.how → (error : PlanError)
+    → IsPlanRefusal plan error → IsNoLot options plan (of_plan_error error)
+no_plan options plan allowed plans.NotAPlan why = (allowed, (why, λ same. cc))
+no_plan options plan allowed (plans.Refused refusal) why = (allowed, (why, λ same. cc))
+no_plan options plan allowed plans.Memory why = tt
 
 -- that there is no lot stops it before anything was written
 module _ (options : LotOptions) (s : Streams) (untouched : IsUntouched s) (plan : List ℕ)
     (within : length plan ≤ MAX_INPUT_LENGTH) where
-  pub stops_lot : (fault : Fault) → IsNoLot options.how (file_of_lot options) plan fault → StopsLot options s fault
+  pub stops_lot : (fault : Fault) → IsNoLot options plan fault → StopsLot options s fault
   stops_lot (faults.Usage line) why = absurd why.1
   stops_lot (faults.Name fault) why = absurd why.1
   stops_lot (faults.Refused refusal) why = absurd why.1

@@ -1,8 +1,8 @@
 -- What a maker answers if the order, the paths or the lengths are refused.
-use Rattle.std.proofs.Common.{◌≡◌, ◌⊎◌, inl, inr, ◌∙◌, ℕ, List as ListOf, [], Option, None, Some, ap, length}
+use Rattle.std.proofs.Common.{◌≡◌, ◌⊎◌, inl, inr, ◌∙◌, ℕ, List as ListOf, [], Option, None, Some, ap}
 use Rattle.std.proofs.Common.{subst, sym}
 use Rattle.std.specs.Option.{option_or}
-use Rattle.tor_meta.specs.Make.{IsMakeFault, IsOwn, asked_fault, make_refusal}
+use Rattle.tor_meta.specs.Make.{IsMakeFault, IsOwn, plan_fault}
 use Rattle.tor_meta.specs.MakeError.{of_contents_error, of_engine_error, out_of_resources}
 use Rattle.tor_meta.specs.declared.make_error.MakeError.{MakeError}
 use Rattle.tor_meta.specs.declared.make_error.MakeError.TheVariants as error
@@ -11,7 +11,6 @@ use Rattle.tor_meta.specs.declared.refusals.ContentsError.{ContentsError}
 use Rattle.tor_meta.specs.declared.refusals.ContentsError.TheVariants as refusal
 use Rattle.tor_source.specs.Source.{SourceFacts}
 use Rattle.tor_sums.specs.declared.errors.EngineError.{EngineError}
-use Rattle.tor_tree.specs.PathList.{AreIndexedPaths, IsPathList}
 use Rattle.tor_tree.specs.declared.lists.ListError.TheVariants as fault
 use Rattle.tor_meta.proofs.Indexed.{or_first, or_second}
 
@@ -66,28 +65,13 @@ module _ {F : Type 0} (first : Option (MakeError F)) where
       let same : Some e ≡ Some other = sym told ∙ is in
       inr cc
 
-module _ {F : Type 0} (facts : SourceFacts F) (order : Order) (paths : ListOf (ListOf (ListOf ℕ)))
-    (e : MakeError F) where
-  -- a refusal is the first fault
-  pub refusal_first : (e ≡ out_of_resources) ⊎ (make_refusal order paths ≡ Some e)
-      → (e ≡ out_of_resources) ⊎ IsMakeFault facts order paths (Some e)
-  refusal_first (inl none) = inl none
-  refusal_first (inr is) = inr (record {
-    entries = [];
-    indexed = λ accepted. let no : None ≡ Some e = sym accepted ∙ is in cc;
-    is_first = or_first (make_refusal order paths) _ e is;
-  })
-
-  -- and so is one of asking, where nothing is refused
-  pub asked_first : (entries : ListOf (ListOf (ListOf ℕ) × ℕ)) → AreIndexedPaths paths entries → IsPathList entries
-      → make_refusal {F = F} order paths ≡ None
-      → (e ≡ out_of_resources) ⊎ (asked_fault facts (length entries) ≡ Some e)
-      → (e ≡ out_of_resources) ⊎ IsMakeFault facts order paths (Some e)
-  asked_first entries indexed lawful accepted (inl none) = inl none
-  asked_first entries indexed lawful accepted (inr is) = inr (record {
-    entries = entries;
-    indexed = λ _. (indexed, lawful.in_order);
-    is_first = or_second (make_refusal order paths) _ (Some e) accepted
-        (or_first (asked_fault facts (length paths)) _ e
-        (subst (λ n. asked_fault facts n ≡ Some e) indexed.one_each is));
-  })
+-- a refusal, and a fault of asking, is the first of all
+pub plan_first : {F : Type 0} (facts : SourceFacts F) (order : Order) (paths : ListOf (ListOf (ListOf ℕ)))
+    (e : MakeError F) → (e ≡ out_of_resources) ⊎ (plan_fault facts order paths ≡ Some e)
+    → (e ≡ out_of_resources) ⊎ IsMakeFault facts order paths (Some e)
+plan_first facts order paths e (inl none) = inl none
+plan_first facts order paths e (inr is) = inr (record {
+  entries = [];
+  indexed = λ accepted. let no : None ≡ Some e = sym accepted ∙ is in cc;
+  is_first = or_first (plan_fault facts order paths) _ e is;
+})

@@ -7,7 +7,8 @@ use Rattle.std.specs.List.{flat_map, range_with_len}
 use Rattle.std.proofs.lemmas.List.Elements.{All-from_recursion}
 use Rattle.tor_engine.specs.Rows.{IsRowOf}
 use Rattle.tor_engine.specs.declared.lot.PieceRow.{PieceRow}
-use Rattle.tor_meta.specs.Lots.{AreAllLots, AreLotsOf, IsTorrentOfLots, joined_hashes, joined_sums, plan_of_text, row_at}
+use Rattle.tor_meta.specs.Lots.{AreAllLots, AreJoinedFacts, AreLotsOf, IsTorrentOfLots, joined_hashes, joined_sums}
+use Rattle.tor_meta.specs.Lots.{plan_of_text, row_at}
 use Rattle.tor_meta.specs.steps.Join.{AreRowsOfLots, row_in}
 use Rattle.tor_parts.proofs.ProvedLaws.{bytes_are_of_one_lot}
 use Rattle.tor_parts.specs.Dealing.{dealt}
@@ -17,15 +18,10 @@ use Rattle.tor_plan.specs.PlanFacts.{PlanFacts}
 use Rattle.tor_plan.specs.declared.units.PlanUnit.{PlanUnit}
 use Rattle.std.specs.Prelude.{unwrap_or}
 use Rattle.tor_bencode.specs.Spelling.{spelling}
-use Rattle.tor_meta.specs.Contents.{files_of}
 use Rattle.tor_meta.specs.Head.{settings_of}
 use Rattle.tor_meta.specs.Listing.{ListingFacts, text_of_listing}
-use Rattle.tor_meta.specs.Rows.{AreFactsOfRows, plan_of_head}
-use Rattle.tor_meta.specs.declared.head.Head.{Head}
-use Rattle.tor_parts.specs.Joining.{layers_over, roots_over}
 use Rattle.tor_spec.specs.Facts.{Facts}
-use Rattle.tor_spec.specs.Metainfo.{metainfo, root_dictionary}
-use Rattle.tor_tree.specs.FileList.{LetteredFiles, lengths_of}
+use Rattle.tor_spec.specs.Metainfo.{root_dictionary}
 
 pub by_numbers : {Y : Type 0} (f : PieceRow → List Y) (g : ℕ → List Y) (n : ℕ) (rows : List PieceRow)
     → ((k : ℕ) (d : PieceRow) → k < length rows → f (get_or rows k d) ≡ g (n + k))
@@ -118,63 +114,37 @@ module _ (plan : PlanFacts) (digest : List ℕ) (texts : List (List ℕ)) (rows 
 
 -- ---- the torrent
 
-module _ (listing : ListingFacts) (head : Head) (list : LetteredFiles) (rows given : List PieceRow)
-    (lots : List LotFacts) (bytes : List ℕ) (is_head : head ≡ listing.head) (is_list : list ≡ listing.list)
+module _ (listing : ListingFacts) (rows given : List PieceRow) (lots : List LotFacts) (bytes : List ℕ)
     (is_rows : given ≡ rows) where
   pub torrent_joined : ((k : ℕ) (d : PieceRow) → k < length rows → Some (row_in (get_or rows k d)) ≡ row_at k lots)
-      → ((facts : List Facts) → AreFactsOfRows head list given facts
-      → bytes ≡ spelling (root_dictionary (settings_of head) facts (sums_of given)))
+      → ((facts : List Facts) → AreJoinedFacts (text_of_listing listing) (hashes_of given) facts
+      → bytes ≡ spelling (root_dictionary (settings_of listing.head) facts (sums_of given)))
       → IsTorrentOfLots (text_of_listing listing) (length rows) lots bytes
   torrent_joined each any = λ facts are.
-      let p = listing.head.piece_length in
-      let lengths = lengths_of listing.list.files in
       let own = λ (k : ℕ) (d : PieceRow) (below : k < length rows).
       ap (λ (o : Option (List (List ℕ) × List ℕ)). unwrap_or o ([], [])) (each k d below)
       ∙ ap (λ n. unwrap_or (row_at n lots) ([], [])) (let e : k ≡ 0 + k = omega arith in e) in
-      let hashes : hashes_of rows ≡ joined_hashes (length rows) lots =
-      by_numbers (λ row. row.hashes.items) (λ k. (unwrap_or (row_at k lots) ([], [])).0) 0 rows
+      let hashes : hashes_of given ≡ joined_hashes (length rows) lots =
+      ap hashes_of is_rows ∙ by_numbers (λ row. row.hashes.items) (λ k. (unwrap_or (row_at k lots) ([], [])).0) 0 rows
       (λ k d below. ap (λ (r : List (List ℕ) × List ℕ). r.0) (own k d below)) in
-      let sums : sums_of rows ≡ joined_sums (length rows) lots =
-      by_numbers (λ row. row.pieces.items) (λ k. (unwrap_or (row_at k lots) ([], [])).1) 0 rows
+      let sums : sums_of given ≡ joined_sums (length rows) lots =
+      ap sums_of is_rows ∙ by_numbers (λ row. row.pieces.items) (λ k. (unwrap_or (row_at k lots) ([], [])).1) 0 rows
       (λ k d below. ap (λ (r : List (List ℕ) × List ℕ). r.1) (own k d below)) in
-      let here = subst (λ (h : Head). (facts : List Facts) → AreFactsOfRows h listing.list rows facts
-      → bytes ≡ spelling (root_dictionary (settings_of h) facts (sums_of rows))) is_head
-      (subst (λ (l : LetteredFiles). (facts : List Facts) → AreFactsOfRows head l rows facts
-      → bytes ≡ spelling (root_dictionary (settings_of head) facts (sums_of rows))) is_list
-      (subst (λ (rs : List PieceRow). (facts : List Facts) → AreFactsOfRows head list rs facts
-      → bytes ≡ spelling (root_dictionary (settings_of head) facts (sums_of rs))) is_rows any)) in
-      here facts (record {
-        is_listed = are.is_listed;
-        is_lettered = are.is_lettered;
-        is_rooted = λ trees. are.is_rooted trees ∙ ap (roots_over p lengths) (sym hashes);
-        is_layered = λ trees. are.is_layered trees ∙ ap (layers_over p lengths) (sym hashes);
-      })
+      any facts (subst (λ (hs : List (List ℕ)). AreJoinedFacts (text_of_listing listing) hs facts) (sym hashes) are)
       ∙ ap (λ ps. spelling (root_dictionary (settings_of listing.head) facts ps)) sums
 
-  module _ (units : PlanFacts) (span : ℕ) (plan digest : List ℕ) (texts : List (List ℕ)) (is_span : span ≡ listing.span)
-      (is_units : units ≡ plan_of_head head span list.files) (is_digest : digest ≡ plan)
+  module _ (units : PlanFacts) (plan digest : List ℕ) (texts : List (List ℕ))
+      (same_plan : units ≡ plan_of_text (text_of_listing listing)) (is_digest : digest ≡ plan)
       (all : AreAllLots units digest texts (length rows) lots) where
-    same_plan : units ≡ plan_of_text (text_of_listing listing)
-    same_plan =
-        is_units ∙ ap₂ (λ (h : Head) (n : ℕ). plan_of_head h n list.files) is_head is_span
-        ∙ ap (λ (l : LetteredFiles). plan_of_head listing.head listing.span l.files) is_list
-
     pub all_there : AreAllLots (plan_of_text (text_of_listing listing)) plan texts (length rows) lots
     all_there =
         subst (λ (p : PlanFacts). AreAllLots p plan texts (length rows) lots) same_plan
         (subst (λ (d : List ℕ). AreAllLots units d texts (length rows) lots) is_digest all)
 
-    pub torrent_made : AreRowsOfLots units rows lots → (contents : List (List ℕ))
-        → map length contents ≡ lengths_of listing.list.files
-        → AreLotsOf (plan_of_text (text_of_listing listing)) plan contents texts
-        → (map length contents ≡ lengths_of list.files → AreRowsOf (plan_of_head head span list.files) contents given
-        → bytes ≡ metainfo (settings_of head) (files_of list contents))
-        → bytes ≡ metainfo (settings_of listing.head) (files_of listing.list contents)
-    torrent_made of_lots contents fit are made =
+    pub rows_made : AreRowsOfLots units rows lots → (contents : List (List ℕ))
+        → AreLotsOf (plan_of_text (text_of_listing listing)) plan contents texts → AreRowsOf units contents given
+    rows_made of_lots contents are =
         let own = subst (λ (p : PlanFacts). AreLotsOf p digest contents texts) (sym same_plan)
         (subst (λ (d : List ℕ). AreLotsOf (plan_of_text (text_of_listing listing)) d contents texts) (sym is_digest) are) in
-        let in_rows = rows_of units digest texts rows lots all of_lots contents own in
-        let there = subst (λ (p : PlanFacts). AreRowsOf p contents given) is_units
-        (subst (λ (rs : List PieceRow). AreRowsOf units contents rs) (sym is_rows) in_rows) in
-        made (fit ∙ ap (λ (l : LetteredFiles). lengths_of l.files) (sym is_list)) there
-        ∙ ap₂ (λ (h : Head) (l : LetteredFiles). metainfo (settings_of h) (files_of l contents)) is_head is_list
+        subst (λ (rs : List PieceRow). AreRowsOf units contents rs) (sym is_rows)
+        (rows_of units digest texts rows lots all of_lots contents own)

@@ -12,13 +12,13 @@ use Rattle.tor_meta.specs.Judged.{IsJudged}
 use Rattle.tor_meta.specs.Refusal.{is_long, is_only, paths_refusal, shape_refusal}
 use Rattle.tor_meta.specs.declared.head.Head.{Head}
 use Rattle.tor_spec.specs.Settings.{is_aligned}
-use Rattle.tor_tree.specs.FileList.{IsFileList, paths_fault, paths_of}
+use Rattle.tor_tree.specs.FileList.{IsFileList, paths_of}
 use Rattle.tor_tree.specs.declared.paths.TheConstants.{MAX_NAMES}
 use Rattle.tor_v1.specs.Reserved.{is_reserved}
 use Rattle.tor_meta.proofs.Judged.{allowed, both_none, cleared, not_reserved, one_path, second_of}
 
 -- what a test says of paths it says of the files that have them
-pub any_of_paths : (q : List (List ℕ) → Bool) (files : List (List (List ℕ) × ℕ))
+any_of_paths : (q : List (List ℕ) → Bool) (files : List (List (List ℕ) × ℕ))
     → list_any q (paths_of files) ≡ list_any (λ file. q file.0) files
 any_of_paths q [] = refl
 any_of_paths q (file ∷ files) = rw (any_of_paths q files) refl
@@ -28,10 +28,6 @@ none_each : (q : List (List ℕ) → Bool) (files : List (List (List ℕ) × ℕ
 none_each q [] none = tt
 none_each q (file ∷ files) none =
     let both = or_parts (q file.0) (list_any q (paths_of files)) none in (both.0, none_each q files both.1)
-
--- the paths of a list have no fault
-pub no_fault : (files : List (List (List ℕ) × ℕ)) → IsFileList files → paths_fault (paths_of files) ≡ None
-no_fault files is = (both_none (paths_fault (paths_of files)) _ is.faultless).0
 
 pub judged_files : (head : Head) (files : List (List (List ℕ) × ℕ)) → IsFileList files
     → paths_refusal (settings_of head) (paths_of files) ≡ None → IsJudged head files

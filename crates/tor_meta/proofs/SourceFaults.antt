@@ -12,8 +12,7 @@ use Rattle.tor_sums.specs.Fault.{change_from, first_byte_fault, first_length_fau
 use Rattle.tor_sums.specs.Fault.{unless_told}
 use Rattle.tor_sums.specs.declared.errors.EngineError.{EngineError}
 use Rattle.tor_sums.specs.declared.errors.EngineError.TheVariants.{Resources as NoResources}
-use Rattle.tor_meta.specs.Make.{IsMakeFault, asked_fault, bytes_fault, content_at, listed_files}
-use Rattle.tor_meta.specs.Make.{make_refusal}
+use Rattle.tor_meta.specs.Make.{IsMakeFault, asked_fault, bytes_fault, content_at, listed_files, plan_fault}
 use Rattle.tor_meta.specs.MakeError.{of_engine_error, out_of_resources}
 use Rattle.tor_meta.specs.steps.IndexedFiles.{facts_at, renumbered}
 use Rattle.tor_meta.specs.declared.make_error.MakeError.{MakeError}
@@ -110,14 +109,14 @@ module _ {F : Type 0} (facts : SourceFacts F) where
 
   pub fault_told : (order : Order) (paths : ListOf (ListOf (ListOf ℕ))) (entries list : Entries)
       (indices : ListOf ℕ) (error : EngineError F) (e : MakeError F) →
-      AreIndexedPaths paths entries → IsPathList entries → make_refusal {F = F} order paths ≡ None →
-      asked_fault facts (length entries) ≡ None → list ≡ listed_files facts entries → indices ≡ indices_of entries →
+      AreIndexedPaths paths entries → IsPathList entries → plan_fault facts order paths ≡ None →
+      list ≡ listed_files facts entries → indices ≡ indices_of entries →
       e ≡ of_engine_error (renumbered indices error) →
       (error ≡ NoResources) ⊎ (first_byte_fault (facts_at indices facts) (lengths_of list) ≡ Some error) →
       (e ≡ out_of_resources) ⊎ IsMakeFault facts order paths (Some e)
-  fault_told order paths entries list indices error e indexed lawful accepted asked are_files are is (inl none) =
+  fault_told order paths entries list indices error e indexed lawful planned are_files are is (inl none) =
       inl (is ∙ rw none refl)
-  fault_told order paths entries list indices error e indexed lawful accepted asked are_files are_indices is (inr h) =
+  fault_told order paths entries list indices error e indexed lawful planned are_files are_indices is (inr h) =
       let listed = sym (ap₂ (λ ps files. first_byte_fault (facts_at ps facts) (lengths_of files)) are_indices are_files)
       ∙ h in
       let told : bytes_fault facts entries ≡ Some e =
@@ -127,17 +126,14 @@ module _ {F : Type 0} (facts : SourceFacts F) where
       inr (record {
         entries = entries;
         indexed = λ _. (indexed, lawful.in_order);
-        is_first = or_second (make_refusal {F = F} order paths) _ (Some e) accepted
-            (or_second (asked_fault facts (length paths)) _ (Some e)
-            (subst (λ n. asked_fault facts n ≡ None) indexed.one_each asked) told);
+        is_first = or_second (plan_fault facts order paths) _ (Some e) planned told;
       })
 
   pub fault_none : (order : Order) (paths : ListOf (ListOf (ListOf ℕ))) (entries list : Entries)
       (indices : ListOf ℕ) → AreIndexedPaths paths entries → IsPathList entries
-      → make_refusal {F = F} order paths ≡ None →
-      asked_fault facts (length entries) ≡ None → list ≡ listed_files facts entries → indices ≡ indices_of entries →
+      → plan_fault facts order paths ≡ None → list ≡ listed_files facts entries → indices ≡ indices_of entries →
       first_byte_fault (facts_at indices facts) (lengths_of list) ≡ None → IsMakeFault facts order paths None
-  fault_none order paths entries list indices indexed lawful accepted asked are_files are_indices none =
+  fault_none order paths entries list indices indexed lawful planned are_files are_indices none =
       let told : bytes_fault facts entries ≡ None =
       sym (byte_fault_told facts entries)
       ∙ ap (option_map (λ fault. of_engine_error (renumbered (indices_of entries) fault)))
@@ -145,7 +141,5 @@ module _ {F : Type 0} (facts : SourceFacts F) where
       record {
         entries = entries;
         indexed = λ _. (indexed, lawful.in_order);
-        is_first = or_second (make_refusal {F = F} order paths) _ None accepted
-            (or_second (asked_fault facts (length paths)) _ None
-            (subst (λ n. asked_fault facts n ≡ None) indexed.one_each asked) told);
+        is_first = or_second (plan_fault facts order paths) _ None planned told;
       }

@@ -10,10 +10,10 @@ pub mod Fed
 pub mod FedIntake
 pub mod FromInput
 pub mod Judged
+pub mod JudgedPlan
 pub mod Listing
 pub mod Lots
 pub mod PieceLength
 pub mod PlanText
 pub mod Planned
-pub mod Rows
 pub mod steps

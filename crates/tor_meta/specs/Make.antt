@@ -80,19 +80,21 @@ bytes_fault facts entries =
     first_of (λ entry. first_of (byte_told facts entry.1) (range_with_len 0 (length (content_at facts entry.1))))
     entries
 
--- the first that there is: the refusals, then the lengths, then the bytes
+-- why there is no plan, the first that there is: the refusals of `make`, then the lengths (profile)
+abbrev pub plan_fault : {F : Type 0} → SourceFacts F → Order → ListOf (ListOf (ListOf ℕ)) → Option (MakeError F)
+plan_fault facts order paths = option_or (make_refusal order paths) (asked_fault facts (length paths))
+
+-- the first that there is: what is one of a plan, then the bytes
 abbrev pub fault_of : {F : Type 0} → SourceFacts F → Order → ListOf (ListOf (ListOf ℕ)) →
     ListOf (ListOf (ListOf ℕ) × ℕ) → Option (MakeError F)
-fault_of facts order paths entries =
-    option_or (make_refusal order paths) (
-    option_or (asked_fault facts (length paths)) (bytes_fault facts entries))
+fault_of facts order paths entries = option_or (plan_fault facts order paths) (bytes_fault facts entries)
 
 -- the first of all: the refusals, the lengths, the bytes. The entries are the paths in order, each with its index
 -- (profile)
 pub record IsMakeFault {F : Type 0} (facts : SourceFacts F) (order : Order) (paths : ListOf (ListOf (ListOf ℕ)))
     (fault : Option (MakeError F)) : Type 0 where
   pub entries : ListOf (ListOf (ListOf ℕ) × ℕ)
-  pub indexed : make_refusal {F = F} order paths ≡ None → AreIndexedPaths paths entries × IsInPathOrder entries
+  pub indexed : plan_fault facts order paths ≡ None → AreIndexedPaths paths entries × IsInPathOrder entries
   pub is_first : fault_of facts order paths entries ≡ fault
 
 -- the torrent of some files with these paths, letters and told lengths. They are in the order of their paths, and the

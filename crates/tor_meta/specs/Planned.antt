@@ -1,7 +1,6 @@
--- The plan of the files of a source: what it is of, and why there is none.
-use Rattle.std.specs.Prelude.{◌≡◌, ℕ, List, None, Some, length, map, slice_index, Option}
-use Rattle.std.specs.Option.{option_or}
-use Rattle.tor_meta.specs.Make.{asked_fault, letters_at, listed_files, make_refusal}
+-- The plan of the files of a source: what it is of, and of what its faults are.
+use Rattle.std.specs.Prelude.{◌≡◌, ℕ, List, None, Some, length, map, slice_index}
+use Rattle.tor_meta.specs.Make.{letters_at, listed_files}
 use Rattle.tor_meta.specs.Order.{settings_of_order}
 use Rattle.tor_meta.specs.PlanText.{PlanText, plan_bytes}
 use Rattle.tor_meta.specs.declared.make_error.MakeError.{MakeError}
@@ -44,10 +43,6 @@ pub record IsPlanOfTold {F : Type 0} (answers : Answers F) (order : Order) (file
   pub accepted : list_fault (map (λ entry. (entry.0, slice_index lengths entry.1)) entries) ≡ None
   pub planned : bytes ≡ plan_bytes (planned order files entries
       (map (λ entry. (entry.0, slice_index lengths entry.1)) entries))
-
--- why there is no plan, the first that there is: the refusals of `make`, then the lengths (profile)
-abbrev pub plan_fault : {F : Type 0} → SourceFacts F → Order → List (List (List ℕ)) → Option (MakeError F)
-plan_fault facts order paths = option_or (make_refusal order paths) (asked_fault facts (length paths))
 
 -- a fault of a plan is of a length that was asked: no byte is read, so none fails, and no file is seen to change
 -- (profile)

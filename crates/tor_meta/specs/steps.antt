@@ -4,6 +4,7 @@ pub mod IndexedFiles
 pub mod Join
 pub mod Layers
 pub mod ListRefusals
+pub mod Listed
 pub mod PlanParts
 pub mod PlanText
 pub mod Sums

@@ -33,12 +33,12 @@ pub(crate) fn judge_paths(
     if let Some(refusal) = refusal_of_shape(head, &paths) {
         return Err(refusal);
     }
-    put_in_order(alloc, head, paths)
+    sorted_paths(alloc, head, paths)
 }
 
 /// The paths in order, each with its index, or the first refusal for what needs their order; all else was judged
 /// before.
-pub(crate) fn put_in_order(
+pub(crate) fn sorted_paths(
     alloc: Global,
     head: &Head,
     paths: Vec<FilePath>,

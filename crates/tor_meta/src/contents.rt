@@ -11,7 +11,7 @@ ghost use Rattle.tor_spec.specs.Metainfo.{metainfo};
 ghost use Rattle.tor_tree.specs.FileList.{lengths_of};
 
 use crate::before_lengths::judge_paths;
-use crate::entries::entries_to_hash;
+use crate::fields::entries::entries_to_hash;
 use crate::head::Head;
 use crate::refusals::ContentsError;
 use crate::sums::{no_sums, sum_pieces, sum_trees};
@@ -45,7 +45,7 @@ pub fn make_contents(
         Err(fault) => return Err(ContentsError::from(fault)),
     };
     let ordered = in_order(alloc, &contents, &indices)?;
-    let bytes = torrent_of(alloc, head, &list, &ordered)?;
+    let bytes = torrent_of_contents(alloc, head, &list, &ordered)?;
     Ok(bytes)
 }
 
@@ -94,7 +94,7 @@ fn in_order<'a>(
 }
 
 /// The torrent of a list of files with their contents.
-fn torrent_of(
+fn torrent_of_contents(
     alloc: Global,
     head: &Head,
     list: &FileList,

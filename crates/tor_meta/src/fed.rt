@@ -10,6 +10,9 @@ ghost use Rattle.tor_meta.specs.Head.{settings_of};
 ghost use Rattle.tor_meta.specs.Refusal.{paths_refusal};
 ghost use Rattle.tor_spec.specs.Metainfo.{metainfo, only};
 
+pub(crate) mod fed_intake;
+pub(crate) mod making;
+
 use crate::head::Head;
 use crate::refusals::ContentsError;
 use crate::sums::tree_of;
@@ -84,7 +87,7 @@ impl FedSums {
         let mut hasher = hasher;
         hasher.feed_zeros(tail)?;
         let Hashed { tree, pieces } = hasher.finish(alloc);
-        let (roots, layers) = trees_of(alloc, tree)?;
+        let (roots, layers) = fed_trees(alloc, tree)?;
         Ok(Sums {
             lengths: vec![in alloc; count]?,
             roots,
@@ -95,7 +98,7 @@ impl FedSums {
 }
 
 // The pieces root and the layer of the one file, where it has a tree.
-fn trees_of(
+fn fed_trees(
     alloc: Global,
     tree: Option<FedTree>,
 ) -> Result<(Vec<Option<Hash>>, Vec<Vec<Hash>>), AllocError>

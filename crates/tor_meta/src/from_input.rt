@@ -17,7 +17,7 @@ use crate::fed::FedSums;
 use crate::from_streams::refusal_of_stream_numbers;
 use crate::head::Head;
 use crate::make_error::MakeError;
-use crate::making::{make_fed, make_summed};
+use crate::fed::making::{make_fed, make_summed};
 use crate::order::Order;
 use std::alloc::{AllocError, Global};
 use std::io;

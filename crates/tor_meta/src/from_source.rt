@@ -1,32 +1,23 @@
 //! The torrent of the files of a source.
-ghost use Rattle.std.specs.Prelude.{◌≡◌, ◌⊎◌, Some, None, IfErr, IfOk, OnOk, List, ℕ, MatchResult, length, map};
-ghost use Rattle.std.specs.Prelude.{Option, slice_index};
-ghost use Rattle.tor_sums.specs.Given.{HasToldLengths};
+ghost use Rattle.std.specs.Prelude.{◌≡◌, ◌⊎◌, Some, None, IfErr, IfOk, OnOk, MatchResult, length};
 ghost use Rattle.tor_meta.specs.Contents.{IsMadeOf, IsMadeOfSome, without_letters};
 ghost use Rattle.tor_spec.specs.Hashes.{HasInfo};
-ghost use Rattle.tor_meta.specs.Head.{settings_of};
-ghost use Rattle.tor_meta.specs.Make.{IsGivenTo, IsMadeOfTold, IsMakeFault, IsOwn, asked_fault, files_of_source};
-ghost use Rattle.tor_meta.specs.Make.{letters_at, listed_files, make_refusal};
+ghost use Rattle.tor_meta.specs.Make.{IsGivenTo, IsMadeOfTold, IsMakeFault, IsOwn, files_of_source, make_refusal};
 ghost use Rattle.tor_meta.specs.Order.{settings_of_order};
-ghost use Rattle.tor_meta.specs.Planned.{IsFaultOfLengths};
 ghost use Rattle.tor_meta.specs.declared.make_error.MakeError.{MakeError};
 ghost use Rattle.tor_meta.specs.MakeError.{out_of_resources};
 ghost use Rattle.tor_source.specs.Source.{SourceFacts};
 ghost use Rattle.tor_tree.specs.FileList.{paths_of};
-ghost use Rattle.tor_tree.specs.PathList.{AreIndexedPaths, IsPathList, indices_of};
 
-use crate::before_lengths::judge_paths;
-use crate::head::Head;
 use crate::indexed_files::{Indexed, renumbered};
 use crate::listed_files::torrent_of_listed;
 use crate::make_error::MakeError;
-use crate::order::{Order, refusal_of_numbers};
-use crate::refusals::ContentsError;
+use crate::order::Order;
+use crate::source_listing::listing_of_source;
 use std::alloc::{AllocError, Global};
 use std::thread::Threads;
-use tor_engine::ask_lengths;
 use tor_source::Source;
-use tor_tree::{Attr, FileList, FilePath, PathList, copy_paths};
+use tor_tree::{Attr, FilePath};
 
 /// The bytes of the torrent of the files of a source: file i of the source has path i, and no letters. All else is as
 /// with [`make_with`].
@@ -84,12 +75,7 @@ pub fn make_with<S: Source, R: Threads + Sync>(
     ensures only { IfErr result (IsOwn (make_refusal order.now (paths_of files.now))) }
     ensures gave { IfErr result (IsGivenTo (S.answers source.now) (length files.now)) }
 {
-    let head = order.head(alloc)?;
-    let paths = match accepted_paths(alloc, order, &head, files) {
-        Ok(paths) => paths,
-        Err(error) => return Err(error),
-    };
-    let (list, indices) = match ask_lettered(alloc, source, files, paths) {
+    let (listing, indices) = match listing_of_source(alloc, source, files, order) {
         Ok(both) => both,
         Err(error) => return Err(error),
     };
@@ -97,7 +83,7 @@ pub fn make_with<S: Source, R: Threads + Sync>(
         source,
         indices: &indices,
     };
-    match torrent_of_listed(rt, alloc, &indexed, &list, &head, order.span, order.how) {
+    match torrent_of_listed(rt, alloc, &indexed, &listing, order.how) {
         Ok(bytes) => Ok(bytes),
         Err(error) => Err(MakeError::from(renumbered(&indices, error))),
     }
@@ -115,85 +101,4 @@ pub(crate) fn without_letters(
         files.push((path.copy(alloc)?, Attr::NONE))?;
     }
     Ok(files)
-}
-
-/// The paths in order, if no torrent is refused for them or for the order.
-pub(crate) fn accepted_paths<F>(
-    alloc: Global,
-    order: &Order,
-    head: &Head,
-    files: &[(FilePath, Attr)],
-) -> Result<PathList, MakeError<F>>
-    requires { settings_of head.now ≡ settings_of_order order.now }
-    ensures indexed { IfOk result (AreIndexedPaths (paths_of files.now)) }
-    ensures lawful { IfOk result IsPathList }
-    ensures accepted { OnOk result (make_refusal {F = F} order.now (paths_of files.now) ≡ None) }
-    ensures refused { IfErr result
-        (λ error. (error ≡ out_of_resources) ⊎ (make_refusal order.now (paths_of files.now) ≡ Some error)) }
-{
-    if let Some(refusal) = refusal_of_numbers(order) {
-        return Err(refusal);
-    }
-    let copies = copy_paths(alloc, files)?;
-    match judge_paths(alloc, head, copies) {
-        Ok(paths) => Ok(paths),
-        Err(refusal) => Err(MakeError::from(refusal)),
-    }
-}
-
-/// The list of the files of the source that have these paths, each with its letters, and the index of each.
-pub(crate) fn ask_lettered<S: Source>(
-    alloc: Global,
-    source: &S,
-    files: &[(FilePath, Attr)],
-    paths: PathList,
-) -> Result<(FileList, Vec<usize>), MakeError<S::Fault>>
-    ensures list { IfOk result (λ both. (lengths : List ℕ) × (length lengths ≡ length paths)
-        × HasToldLengths (S.answers source.now) lengths
-        × (both.0.files ≡ map (λ entry. (entry.0, slice_index lengths entry.1)) paths)) }
-    ensures letters { IfOk result (λ both. both.0.attrs ≡ map (letters_at files.now) (indices_of paths)) }
-    ensures indices { IfOk result (λ both. both.1.items ≡ indices_of paths) }
-    ensures files { (facts : SourceFacts S.Fault) → S.is_steady source.now facts →
-        IfOk result (λ both. both.0.files ≡ listed_files facts paths) }
-    ensures fault { (facts : SourceFacts S.Fault) → S.is_steady source.now facts → MatchResult result
-        (λ _. asked_fault facts (length paths) ≡ None)
-        (λ error. (error ≡ out_of_resources) ⊎ (asked_fault facts (length paths) ≡ Some error)) }
-    ensures only { (first : Option (MakeError S.Fault)) → IfErr result (IsOwn first) }
-    ensures gave { IfErr result (IsGivenTo (S.answers source.now) (length paths)) }
-    ensures lengths { IfErr result IsFaultOfLengths }
-{
-    let lengths = match ask_lengths(alloc, source, paths.entries().len()) {
-        Ok(lengths) => lengths,
-        Err(error) => return Err(MakeError::from(error)),
-    };
-    let (list, indices) = match paths.with_lengths(alloc, &lengths) {
-        Ok(both) => both,
-        Err(fault) => return Err(MakeError::from(ContentsError::from(fault))),
-    };
-    let attrs = attrs_at(alloc, files, &indices)?;
-    Ok((list.with_attrs(attrs), indices))
-}
-
-/// The letters of the files at these indices.
-fn attrs_at(
-    alloc: Global,
-    files: &[(FilePath, Attr)],
-    indices: &[usize],
-) -> Result<Vec<Attr>, AllocError>
-    ensures { IfOk result (λ attrs. attrs.items ≡ map (letters_at files.now) indices.now) }
-{
-    let mut attrs = Vec::with_capacity(alloc, indices.len())?;
-    for index in indices {
-        attrs.push(letters_at(files, *index))?;
-    }
-    Ok(attrs)
-}
-
-fn letters_at(files: &[(FilePath, Attr)], index: usize) -> Attr
-    ensures { result ≡ letters_at files.now index }
-{
-    match files.get(index) {
-        Some((_, attr)) => *attr,
-        None => Attr::NONE,
-    }
 }

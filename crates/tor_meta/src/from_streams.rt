@@ -20,7 +20,7 @@ ghost use Rattle.tor_tree.specs.FileList.{lengths_fault, paths_of};
 ghost use Rattle.tor_tree.specs.PathList.{AreIndexedPaths, IsPathList, with_indices};
 ghost use Rattle.tor_tree.specs.declared.lists.ListError.{ListError};
 
-use crate::before_lengths::{put_in_order, refusal_of_shape};
+use crate::before_lengths::{sorted_paths, refusal_of_shape};
 use crate::from_source::without_letters;
 use crate::head::Head;
 use crate::listed_files::torrent_of_sums;
@@ -97,7 +97,7 @@ pub fn make_streams_with<R: Read + Drop, T: Threads + Wait + Sync>(
     ensures gave { IfErr result (IsGivenByReaders (map R.remaining readers.items)) }
 {
     let head = order.head(alloc)?;
-    let paths = match accepted_paths(alloc, order, &head, files) {
+    let paths = match rising_paths(alloc, order, &head, files) {
         Ok(paths) => paths,
         Err(error) => return Err(error),
     };
@@ -172,7 +172,7 @@ fn sums_of<R: Read + Drop, T: Threads + Wait + Sync>(
 }
 
 /// The paths, if no torrent is refused for them or for the order.
-fn accepted_paths(
+fn rising_paths(
     alloc: Global,
     order: &Order,
     head: &Head,
@@ -196,7 +196,7 @@ fn accepted_paths(
     if !are_rising(&paths) {
         return Err(MakeError::NotSorted);
     }
-    match put_in_order(alloc, head, paths) {
+    match sorted_paths(alloc, head, paths) {
         Ok(paths) => Ok(paths),
         Err(refusal) => Err(MakeError::from(refusal)),
     }

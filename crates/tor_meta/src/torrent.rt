@@ -14,9 +14,9 @@ ghost use Rattle.tor_spec.specs.PieceLayers.{piece_layers};
 ghost use Rattle.tor_tree.specs.Kinds.{has_v2};
 
 use crate::head::Head;
-use crate::info::info;
-use crate::items::{dictionary, push_field, text};
-use crate::layers::piece_layers;
+use crate::fields::info::info;
+use crate::fields::items::{dictionary, push_field, text};
+use crate::fields::layers::piece_layers;
 use std::alloc::{AllocError, Global};
 use tor_bencode::{BenError, Item, Tree, encode};
 use tor_engine::Sums;

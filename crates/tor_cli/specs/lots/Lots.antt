@@ -12,11 +12,11 @@ use Rattle.tor_meta.specs.declared.join_error.JoinError.{JoinError}
 use Rattle.tor_meta.specs.declared.join_error.JoinError.TheVariants as joins
 use Rattle.tor_meta.specs.declared.listing_error.PlanError.TheVariants as plans
 use Rattle.tor_meta.specs.declared.make_error.MakeError.TheVariants.{Workers}
-use Rattle.tor_parts.specs.OwnFiles.{IsGivenOwn}
+use Rattle.tor_parts.specs.Dealing.{dealt}
+use Rattle.tor_parts.specs.OwnFiles.{IsGivenOwn, IsOfFiles, files_of}
 use Rattle.tor_source.specs.Answers.{system_answers}
 use Rattle.tor_source.specs.Places.{place_of}
 use Rattle.tor_sums.specs.How.{IsHow}
-use Rattle.tor_sums.specs.declared.how.How.{How}
 use Rattle.tor_sums.specs.declared.errors.EngineError.{EngineError}
 use Rattle.tor_tree.specs.FileList.{lengths_of}
 use Rattle.tor_report.specs.Escape.{escaped}
@@ -42,27 +42,29 @@ IsLotAt lot plan bytes = OfPlan plan (λ text. (contents : List (List ℕ))
     × (map length contents ≡ lengths_of text.list.files)
     × IsLotOf (plan_of_text text) (pieces_root plan) lot.lots lot.number contents bytes)
 
--- why workers that may hash a lot of the plan, which is to go to this file if there is one, do not: it is no plan; a
--- fault of one of its files; the file that the lot is to go to is one of them, or the system does not tell of one; or
--- that file cannot be written
-abbrev pub IsNoLotOf : Option (List ℕ) → List ℕ → Fault → Type 0
-IsNoLotOf out plan (Plan error) = IsPlanRefusal plan error × (error ≢ plans.Memory)
-IsNoLotOf out plan (Make error) = OfPlan plan (λ text. (fault : EngineError Error) × (error ≡ of_engine_error fault)
-    × IsGivenOwn (system_answers (length text.list.files)) (lengths_of text.list.files) fault)
-IsNoLotOf out plan OutAmongFiles = IsSome out
-IsNoLotOf out plan (Scan System) = IsSome out
-IsNoLotOf out plan (Write written) = (written ≡ 0) × IsSome out
-IsNoLotOf out plan _ = ⊥
-
--- why there is no lot of the plan: there is no worker or too many, which comes first; or another reason
-abbrev pub IsNoLot : How → Option (List ℕ) → List ℕ → Fault → Type 0
-IsNoLot how out plan (Make Workers) = IsHow how → ⊥
-IsNoLot how out plan Resources = Unit {0}
-IsNoLot how out plan fault = IsHow how × IsNoLotOf out plan fault
-
 -- the file that the bytes go to, if it is not the writer
 abbrev pub file_of_lot : LotOptions → Option (List ℕ)
 file_of_lot options = option_map (λ place. place.now) options.out
+
+-- why workers that may hash a lot of the plan, which is to go to this file if there is one, do not: it is no plan; a
+-- fault of one of the lot's own files; the file that the lot is to go to is one of the plan's, or the system does not
+-- tell of one; or that file cannot be written
+abbrev pub IsNoLotOf : LotOptions → List ℕ → Fault → Type 0
+IsNoLotOf options plan (Plan error) = IsPlanRefusal plan error × (error ≢ plans.Memory)
+IsNoLotOf options plan (Make error) = OfPlan plan (λ text. (fault : EngineError Error)
+    × (error ≡ of_engine_error fault)
+    × IsGivenOwn (system_answers (length text.list.files)) (lengths_of text.list.files) fault
+    × IsOfFiles (files_of (dealt options.lot.lots options.lot.number (plan_of_text text).units)) fault)
+IsNoLotOf options plan OutAmongFiles = IsSome (file_of_lot options)
+IsNoLotOf options plan (Scan System) = IsSome (file_of_lot options)
+IsNoLotOf options plan (Write written) = (written ≡ 0) × IsSome (file_of_lot options)
+IsNoLotOf options plan _ = ⊥
+
+-- why there is no lot of the plan: there is no worker or too many, which comes first; or another reason
+abbrev pub IsNoLot : LotOptions → List ℕ → Fault → Type 0
+IsNoLot options plan (Make Workers) = IsHow options.how → ⊥
+IsNoLot options plan Resources = Unit {0}
+IsNoLot options plan fault = IsHow options.how × IsNoLotOf options plan fault
 
 -- where the files of a plan stand: the one file of a torrent that is one, or those below the folder (profile)
 abbrev pub places_of_list : List ℕ → Bool → List (List (List ℕ)) → List (List ℕ)
@@ -71,7 +73,7 @@ places_of_list place single paths =
 
 -- some bytes of a plan, of which there is no lot
 abbrev pub OfNoLot : LotOptions → Fault → Type 0
-OfNoLot options fault = OfSome (λ plan. IsNoLot options.how (file_of_lot options) plan fault)
+OfNoLot options fault = OfSome (λ plan. IsNoLot options plan fault)
 
 -- what is written of a lot by workers that may hash it: it, and nothing else (profile)
 abbrev pub DoesLot : LotOptions → Streams → Type 0

@@ -155,7 +155,7 @@ fn paths_of_plan(system: &HostRuntime, place: &str) -> Result<Option<Vec<FilePat
         return Ok(None);
     };
     match read_plan(alloc, &bytes) {
-        Ok(listing) => Ok(Some(copy_paths(alloc, listing.list().files())?)),
+        Ok(plan) => Ok(Some(copy_paths(alloc, plan.listing().list().files())?)),
         Err(_) => Ok(None),
     }
 }

@@ -4,8 +4,7 @@ ghost use Rattle.tor_cli.specs.declared.fault.Fault.TheVariants.{OutAmongFiles, 
 ghost use Rattle.tor_source.specs.declared.faults.ScanFault.TheVariants.{System};
 ghost use Rattle.tor_cli.specs.lots.Lots.{DoesLot, IsLotAt, IsNoLot, StopsLot, file_of_lot, places_of_list};
 ghost use Rattle.tor_cli.specs.steps.Writing.{writing};
-ghost use Rattle.tor_meta.specs.Listing.{text_of_listing};
-ghost use Rattle.tor_meta.specs.PlanText.{IsPlanText, plan_bytes};
+ghost use Rattle.tor_meta.specs.JudgedPlan.{bytes_of_plan};
 ghost use Rattle.tor_sums.specs.How.{IsHow};
 ghost use Rattle.tor_tree.specs.FileList.{paths_of};
 
@@ -20,7 +19,7 @@ use std::alloc::AllocError;
 use std::io::Write;
 use std::rt::Files;
 use std::thread::Threads;
-use tor_meta::{Listing, MakeError, files_of_lot, make_lot, read_plan};
+use tor_meta::{JudgedPlan, MakeError, files_of_lot, make_lot, read_plan};
 use tor_source::FolderSource;
 use tor_tree::copy_paths;
 
@@ -56,7 +55,7 @@ fn lot_of_plan<T: Threads + Sync>(
     ensures allowed { OnOk result (IsHow options.now.how) }
     ensures made { IfOk result (λ bytes. IsLotAt options.now.lot plan.now bytes.items) }
     ensures some { IfOk result (λ bytes. 0 < length bytes.items) }
-    ensures stopped { IfErr result (IsNoLot options.now.how (file_of_lot options.now) plan.now) }
+    ensures stopped { IfErr result (IsNoLot options.now plan.now) }
 {
     if !options.how.is_allowed() {
         return Err(Fault::Make(MakeError::Workers));
@@ -75,69 +74,58 @@ fn lot_by_workers<T: Threads + Sync>(
     requires allowed { IsHow options.now.how }
     ensures made { IfOk result (λ bytes. IsLotAt options.now.lot plan.now bytes.items) }
     ensures some { IfOk result (λ bytes. 0 < length bytes.items) }
-    ensures stopped { IfErr result (IsNoLot options.now.how (file_of_lot options.now) plan.now) }
+    ensures stopped { IfErr result (IsNoLot options.now plan.now) }
 {
-    let listing = read_plan(system.alloc(), plan)?;
-    lot_of_listing(rt, system, plan, &listing, options, shows_progress)
+    let plan = read_plan(system.alloc(), plan)?;
+    lot_of_judged(rt, system, &plan, options, shows_progress)
 }
 
-/// The bytes of the lot of the plan that tells this. Nothing is hashed unless it can be written.
-fn lot_of_listing<T: Threads + Sync>(
+/// The bytes of the lot of a plan that was read. Nothing is hashed unless it can be written.
+fn lot_of_judged<T: Threads + Sync>(
     rt: &T,
     system: &HostRuntime,
-    plan: &[u8],
-    listing: &Listing,
+    plan: &JudgedPlan,
     options: &LotOptions<'_>,
     shows_progress: bool,
 ) -> Result<Vec<u8>, Fault>
     requires allowed { IsHow options.now.how }
-    requires told { IsPlanText (text_of_listing listing.now) }
-    requires plan { plan.now ≡ plan_bytes (text_of_listing listing.now) }
-    ensures made { IfOk result (λ bytes. IsLotAt options.now.lot plan.now bytes.items) }
+    ensures made { IfOk result (λ bytes. IsLotAt options.now.lot (bytes_of_plan plan.now) bytes.items) }
     ensures some { IfOk result (λ bytes. 0 < length bytes.items) }
-    ensures stopped { IfErr result (IsNoLot options.now.how (file_of_lot options.now) plan.now) }
+    ensures stopped { IfErr result (IsNoLot options.now (bytes_of_plan plan.now)) }
 {
-    let source = source_of(system, options, listing)?;
-    refuse_out_among_plan(system, options, listing)?;
+    let source = source_of(system, options, plan)?;
+    refuse_out_among_plan(system, options, plan)?;
     refuse_unwritable(system, options.out)?;
     refuse_unmakeable(system, options.out)?;
-    lot_of_source(rt, system, plan, listing, &source, options, shows_progress)
+    lot_of_source(rt, system, plan, &source, options, shows_progress)
 }
 
 /// The bytes of the lot, of the files of this source.
 fn lot_of_source<T: Threads + Sync>(
     rt: &T,
     system: &HostRuntime,
-    plan: &[u8],
-    listing: &Listing,
+    plan: &JudgedPlan,
     source: &FolderSource<HostRuntime>,
     options: &LotOptions<'_>,
     shows_progress: bool,
 ) -> Result<Vec<u8>, Fault>
     requires allowed { IsHow options.now.how }
-    requires told { IsPlanText (text_of_listing listing.now) }
-    requires plan { plan.now ≡ plan_bytes (text_of_listing listing.now) }
-    requires count { length source.now ≡ length listing.now.list.files }
-    ensures made { IfOk result (λ bytes. IsLotAt options.now.lot plan.now bytes.items) }
+    requires count { length source.now ≡ length plan.now.listing.list.files }
+    ensures made { IfOk result (λ bytes. IsLotAt options.now.lot (bytes_of_plan plan.now) bytes.items) }
     ensures some { IfOk result (λ bytes. 0 < length bytes.items) }
-    ensures stopped { IfErr result (IsNoLot options.now.how (file_of_lot options.now) plan.now) }
+    ensures stopped { IfErr result (IsNoLot options.now (bytes_of_plan plan.now)) }
 {
-    let progress = Progress::shown(system, listing.list().files().len(), shows_progress);
+    // What every plan keeps to is told with its listing.
+    let files = plan.listing().list().files();
+    let progress = Progress::shown(system, files.len(), shows_progress);
     let counting = Counting {
         source,
         files: &[],
         progress: &progress,
     };
-    let made = make_lot(
-        rt,
-        system.alloc(),
-        &counting,
-        listing,
-        plan,
-        options.lot.lots,
-        options.lot.number,
-        options.how,
-    );
+    let alloc = system.alloc();
+    let (lots, number) = (options.lot.lots, options.lot.number);
+    let made = make_lot(rt, alloc, &counting, plan, lots, number, options.how);
     erase(&progress);
     match made {
         Ok(bytes) => Ok(bytes),
@@ -145,23 +133,23 @@ fn lot_of_source<T: Threads + Sync>(
     }
 }
 
-/// The files of a listing at PATH: the one file that it is of, or those below the folder, of which only the lot's own
-/// are looked for, and no link is followed.
+/// The files of a plan at PATH: the one file that it is of, or those below the folder, of which only the lot's own are
+/// looked for, and no link is followed.
 fn source_of(
     system: &HostRuntime,
     options: &LotOptions<'_>,
-    listing: &Listing,
+    plan: &JudgedPlan,
 ) -> Result<FolderSource<HostRuntime>, AllocError>
-    ensures count { IfOk result (λ source. length source ≡ length listing.now.list.files) }
-    ensures places { IfOk result (λ source. source
-        ≡ places_of_list options.now.place.now listing.now.head.single (paths_of listing.now.list.files)) }
+    ensures count { IfOk result (λ source. length source ≡ length plan.now.listing.list.files) }
+    ensures places { IfOk result (λ source. source ≡ places_of_list options.now.place.now plan.now.listing.head.single
+        (paths_of plan.now.listing.list.files)) }
 {
-    let files = listing.list().files();
-    if listing.head().single && files.len() == 1 {
-        return FolderSource::single(system, system.alloc(), options.place);
+    let listing = plan.listing();
+    if listing.head().single {
+        return all_files(system, options.place, plan);
     }
     let alloc = system.alloc();
-    let paths = copy_paths(alloc, files)?;
+    let paths = copy_paths(alloc, listing.list().files())?;
     let own = files_of_lot(alloc, listing, options.lot.lots, options.lot.number)?;
     FolderSource::wanted_without_links(system, alloc, options.place, paths, &own)
 }
@@ -170,7 +158,7 @@ fn source_of(
 fn refuse_out_among_plan(
     system: &HostRuntime,
     options: &LotOptions<'_>,
-    listing: &Listing,
+    plan: &JudgedPlan,
 ) -> Result<(), Fault>
     ensures { IfErr result (λ fault. (fault ≡ Resources)
         ⊎ (((fault ≡ Scan System) ⊎ (fault ≡ OutAmongFiles)) × IsSome (file_of_lot options.now))) }
@@ -181,17 +169,22 @@ fn refuse_out_among_plan(
     if system.metadata(place).is_err() {
         return Ok(());
     }
-    let files = all_files(system, options.place, listing)?;
+    let files = all_files(system, options.place, plan)?;
     refuse_out_among_files(system, options.out, &files)
 }
 
-/// All files of a listing at PATH, of which nothing is asked.
+/// All files of a plan at PATH, of which nothing is asked.
 fn all_files(
     system: &HostRuntime,
     place: &str,
-    listing: &Listing,
-) -> Result<FolderSource<HostRuntime>, AllocError> {
+    plan: &JudgedPlan,
+) -> Result<FolderSource<HostRuntime>, AllocError>
+    ensures count { IfOk result (λ source. length source ≡ length plan.now.listing.list.files) }
+    ensures places { IfOk result (λ source. source ≡ places_of_list place.now plan.now.listing.head.single
+        (paths_of plan.now.listing.list.files)) }
+{
     let alloc = system.alloc();
+    let listing = plan.listing();
     let files = listing.list().files();
     if listing.head().single && files.len() == 1 {
         return FolderSource::single(system, alloc, place);

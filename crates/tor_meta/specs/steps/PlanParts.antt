@@ -3,7 +3,7 @@ use Rattle.std.specs.Prelude.{◌≡◌, ◌<◌, ◌^◌, ◌++◌, ℕ, List, 
 use Rattle.std.specs.List.{AllByRecursion}
 use Rattle.tor_meta.specs.PlanText.{PlanText, path_text}
 use Rattle.tor_meta.specs.declared.head.Head.{Head}
-use Rattle.tor_meta.specs.declared.plan_reading.PlanParts.{PlanParts}
+use Rattle.tor_meta.specs.declared.plans.plan_reading.PlanParts.{PlanParts}
 use Rattle.tor_meta.specs.steps.PlanText.{text_of}
 use Rattle.tor_tree.specs.Name.{name_fault}
 use Rattle.tor_tree.specs.Path.{IsFilePath}

@@ -20,7 +20,7 @@ const FLAGS: &[u8] =
 
 fn is_read(alloc: Global, bytes: &[u8]) -> bool {
     match read_plan(alloc, bytes) {
-        Ok(listing) => are(write_plan(alloc, &listing), bytes),
+        Ok(plan) => are(write_plan(alloc, plan.listing()), bytes),
         Err(_) => false,
     }
 }

@@ -42,15 +42,15 @@ in_order-requires c =
     c.in-Ok.paths c.in-Ok-with_lengths.both.0 c.in-Ok-with_lengths.both.1.items c.in-Ok.ensures.indexed
     c.in-Ok-with_lengths.ensures.files c.in-Ok-with_lengths.ensures.indices)
 
-pub torrent_of-requires-clause-judged : goal.torrent_of-requires-clause-judged
-torrent_of-requires-clause-judged c =
+pub torrent_of_contents-requires-clause-judged : goal.torrent_of_contents-requires-clause-judged
+torrent_of_contents-requires-clause-judged c =
     judged_list c.args.head.now c.in_ok-paths.paths.items c.deref-2.result.now c.in-Ok.paths
     c.in-Ok-with_lengths.both.0.files c.in-Ok.ensures.indexed c.in-Ok.ensures.accepted
     (ap (λ list. list.files) c.in-Ok-with_lengths.ensures.files) (files_lawful c.in-Ok-with_lengths.both.0 (rw (←
     c.list.view_is) c.list.invariant))
 
-pub torrent_of-requires-clause-contents : goal.torrent_of-requires-clause-contents
-torrent_of-requires-clause-contents c =
+pub torrent_of_contents-requires-clause-contents : goal.torrent_of_contents-requires-clause-contents
+torrent_of_contents-requires-clause-contents c =
     contents_listed (settings_of c.args.head.now) c.args.files.items c.in_ok-paths.paths.items
     c.in_ok-paths.contents.items c.deref-2.result.now
     c.in_ok-paths.ensures.paths c.in_ok-paths.ensures.contents (c.deref-2.ensures.value ∙ c.in_ok-lengths.ensures

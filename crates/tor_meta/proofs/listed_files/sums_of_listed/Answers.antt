@@ -20,15 +20,15 @@ returns-in-Err-clause-steady g c = λ facts steady none.
 pub returns-clause-whole : goal.returns-clause-whole
 returns-clause-whole g c =
     let whole = c.in-Ok.ensures.whole in
-    let both = from_plan c.args.head.now c.args.list.now.files c.in-Ok.sums c.in_ok-plan.plan whole.0
+    let both = from_plan c.args.listing.now.head c.args.listing.now.list.files c.in-Ok.sums c.in_ok-plan.plan whole.0
     c.in_ok-plan.ensures.is
     whole.1 whole.2 in
     (whole.0, both.0, both.1)
 
 pub returns-clause-steady : goal.returns-clause-steady
 returns-clause-steady g c = λ facts steady none.
-    let head = c.args.head.now in
-    let list = c.args.list.now.files in
+    let head = c.args.listing.now.head in
+    let list = c.args.listing.now.list.files in
     let plan = c.in_ok-plan.plan in
     let is = c.in_ok-plan.ensures.is in
     let whole = c.in-Ok.ensures.whole in
