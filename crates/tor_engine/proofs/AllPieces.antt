@@ -12,8 +12,8 @@ use Rattle.tor_engine.specs.PieceFault.{first_asked_fault, first_piece_fault, le
 use Rattle.tor_engine.specs.PieceFault.{units_piece_fault}
 use Rattle.tor_engine.specs.PieceHashes.{hash_if_there, hashes_of_units, pieces_of_plan, pieces_of_units, piece_hashes}
 use Rattle.tor_engine.specs.There.{HaveHashesOf, is_within}
-use Rattle.tor_engine.specs.declared.piece_hash.PieceHash.{PieceHash}
-use Rattle.tor_engine.specs.declared.piece_work.UnitPieces.{UnitPieces}
+use Rattle.tor_engine.specs.declared.pieces.piece_hash.PieceHash.{PieceHash}
+use Rattle.tor_engine.specs.declared.pieces.piece_work.UnitPieces.{UnitPieces}
 use Rattle.tor_sums.specs.steps.Each.{SumUpEach}
 use Rattle.tor_engine.specs.steps.Pieces.{AreTold, HashesPieces, first_unit_fault, hashes_in, unit_hashes}
 use Rattle.tor_engine.specs.steps.Pieces.{unit_pieces_fault}

@@ -19,8 +19,8 @@ use Rattle.tor_plan.specs.declared.units.PlanUnit.{PlanUnit}
 use Rattle.tor_source.specs.Source.{SourceFacts}
 use Rattle.tor_sums.specs.Fault.{IsFault, first_of}
 use Rattle.tor_sums.specs.declared.errors.EngineError.{EngineError}
-use Rattle.tor_engine.specs.declared.failure.Failure.{Failure}
-use Rattle.tor_engine.specs.declared.failure.Failure.TheVariants.{AtUnit, Memory}
+use Rattle.tor_engine.specs.declared.workers.failure.Failure.{Failure}
+use Rattle.tor_engine.specs.declared.workers.failure.Failure.TheVariants.{AtUnit, Memory}
 use Rattle.tor_sums.specs.steps.Each.{SumUpEach}
 use Rattle.tor_sums.specs.steps.Places.{AreNumbers}
 use Rattle.tor_sums.specs.steps.Roots.{root_of_run, roots_of_trees}

@@ -12,8 +12,8 @@ use Rattle.tor_plan.specs.declared.units.PlanUnit.{PlanUnit}
 use Rattle.tor_source.specs.Source.{SourceFacts}
 use Rattle.tor_sums.specs.Fault.{IsFault}
 use Rattle.tor_sums.specs.declared.errors.EngineError.{EngineError}
-use Rattle.tor_engine.specs.declared.failure.UnitFailure.{UnitFailure}
-use Rattle.tor_engine.specs.declared.worker_share.Share.{Share}
+use Rattle.tor_engine.specs.declared.workers.failure.UnitFailure.{UnitFailure}
+use Rattle.tor_engine.specs.declared.workers.worker_share.Share.{Share}
 use Rattle.tor_sums.specs.declared.owing.OwingSums.{OwingSums}
 use Rattle.tor_sums.specs.steps.Each.{SumUpEach}
 use Rattle.tor_engine.specs.steps.Taken.{GivesUnit, HasGiven, IsAny, IsIdle, IsOfGiven, IsSumOf, TakesUnits}

@@ -10,9 +10,9 @@ use Rattle.std.specs.Option.{option_or}
 use Rattle.tor_plan.specs.declared.units.PlanUnit.{PlanUnit}
 use Rattle.tor_sums.specs.Fault.{IsFault, first_of}
 use Rattle.tor_sums.specs.declared.errors.EngineError.{EngineError}
-use Rattle.tor_engine.specs.declared.failure.Failure.{Failure}
-use Rattle.tor_engine.specs.declared.failure.Failure.TheVariants.{AtUnit, Memory}
-use Rattle.tor_engine.specs.declared.failure.UnitFailure.{UnitFailure}
+use Rattle.tor_engine.specs.declared.workers.failure.Failure.{Failure}
+use Rattle.tor_engine.specs.declared.workers.failure.Failure.TheVariants.{AtUnit, Memory}
+use Rattle.tor_engine.specs.declared.workers.failure.UnitFailure.{UnitFailure}
 use Rattle.tor_engine.specs.steps.Failing.{IsFailure, error_of, failure_of, first_failure, least_of}
 use Rattle.tor_sums.proofs.FirstOf.{first_append, first_at, first_next, or_none, or_some}
 

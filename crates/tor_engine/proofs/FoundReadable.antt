@@ -19,11 +19,11 @@ use Rattle.tor_engine.specs.PieceFault.{piece_fault, pieces_fault}
 use Rattle.tor_engine.specs.PieceHashes.{hash_if_there}
 use Rattle.tor_engine.specs.Readable.{HasHashWithin, error_of_fault, hash_if_readable, piece_faults}
 use Rattle.tor_engine.specs.There.{HaveHashesOf, is_within}
-use Rattle.tor_engine.specs.declared.piece_hash.FoundPiece.{FoundPiece}
-use Rattle.tor_engine.specs.declared.piece_hash.FoundPiece.TheVariants as found
-use Rattle.tor_engine.specs.declared.piece_hash.PieceHash.{PieceHash}
-use Rattle.tor_engine.specs.declared.read_fault.ReadFault.{ReadFault}
-use Rattle.tor_engine.specs.declared.readable_unit.ReadableUnit.{ReadableUnit}
+use Rattle.tor_engine.specs.declared.pieces.piece_hash.FoundPiece.{FoundPiece}
+use Rattle.tor_engine.specs.declared.pieces.piece_hash.FoundPiece.TheVariants as found
+use Rattle.tor_engine.specs.declared.pieces.piece_hash.PieceHash.{PieceHash}
+use Rattle.tor_engine.specs.declared.pieces.read_fault.ReadFault.{ReadFault}
+use Rattle.tor_engine.specs.declared.pieces.readable_unit.ReadableUnit.{ReadableUnit}
 use Rattle.tor_engine.specs.steps.Pieces.{AreTold, hashes_in, owed_to_piece, paid_piece}
 use Rattle.tor_engine.specs.steps.Readable.{FindsReadable, FindsUnit, unit_hashes_in}
 use Rattle.tor_engine.specs.steps.ReadableUnit.{faults_found}

@@ -6,9 +6,9 @@ use Rattle.std.proofs.Math.ListN.{get_or-append}
 use Rattle.std.proofs.Math.Seq.{drop-append-add, drop-cons}
 use Rattle.std.proofs.lemmas.List.{get_or-map, length-append, length-map}
 use Rattle.tor_sums.specs.steps.Owing.{paid_each}
-use Rattle.tor_engine.specs.declared.piece_hash.FoundPiece.{FoundPiece}
-use Rattle.tor_engine.specs.declared.piece_hash.FoundPiece.TheVariants.{Hashed, Missing, Unsummed}
-use Rattle.tor_engine.specs.declared.piece_work.UnitPieces.{UnitPieces}
+use Rattle.tor_engine.specs.declared.pieces.piece_hash.FoundPiece.{FoundPiece}
+use Rattle.tor_engine.specs.declared.pieces.piece_hash.FoundPiece.TheVariants.{Hashed, Missing, Unsummed}
+use Rattle.tor_engine.specs.declared.pieces.piece_work.UnitPieces.{UnitPieces}
 use Rattle.tor_engine.specs.steps.FoundRow.{is_missing}
 use Rattle.tor_engine.specs.steps.UnitHashes.{hashes_of_unit}
 use Rattle.tor_engine.specs.steps.Pieces.{hashes_in, owed_to_piece, paid_piece}

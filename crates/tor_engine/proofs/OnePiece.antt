@@ -25,8 +25,8 @@ use Rattle.tor_sums.specs.Fault.{first_of, part_fault, unit_fault}
 use Rattle.tor_engine.specs.PieceFault.{piece_fault}
 use Rattle.tor_engine.specs.PieceHashes.{hash_if_there, hash_of_parts, piece_hash}
 use Rattle.tor_sums.specs.steps.Hashes.{bytes_of_part}
-use Rattle.tor_engine.specs.declared.piece_hash.FoundPiece.{FoundPiece}
-use Rattle.tor_engine.specs.declared.piece_hash.FoundPiece.TheVariants.{Hashed, Unsummed}
+use Rattle.tor_engine.specs.declared.pieces.piece_hash.FoundPiece.{FoundPiece}
+use Rattle.tor_engine.specs.declared.pieces.piece_hash.FoundPiece.TheVariants.{Hashed, Unsummed}
 use Rattle.tor_engine.specs.steps.Pieces.{HasPieces, IsPaddingSum, IsPiece, hashes_in, owed_to_piece, paid_piece}
 use Rattle.tor_engine.specs.steps.Pieces.{sums_in}
 use Rattle.tor_sums.proofs.FirstOf.{first_of_none}

@@ -5,8 +5,8 @@ use Rattle.tor_plan.specs.PlanFacts.{PlanFacts}
 use Rattle.tor_plan.specs.declared.units.PlanUnit.{PlanUnit}
 use Rattle.tor_source.specs.Source.{SourceFacts}
 use Rattle.tor_sums.specs.steps.Each.{OweEach}
-use Rattle.tor_engine.specs.declared.piece_hash.FoundPiece.{FoundPiece}
-use Rattle.tor_engine.specs.declared.piece_hash.FoundPiece.TheVariants.{Hashed, Missing, Unsummed}
+use Rattle.tor_engine.specs.declared.pieces.piece_hash.FoundPiece.{FoundPiece}
+use Rattle.tor_engine.specs.declared.pieces.piece_hash.FoundPiece.TheVariants.{Hashed, Missing, Unsummed}
 use Rattle.tor_engine.specs.steps.Pieces.{hashes_in, owed_to_piece, paid_piece}
 use Rattle.tor_engine.specs.steps.Unsummed.{FindsPiece}
 

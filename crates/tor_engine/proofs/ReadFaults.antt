@@ -22,7 +22,7 @@ use Rattle.tor_engine.specs.PieceFault.{piece_fault, pieces_fault}
 use Rattle.tor_engine.specs.PieceHashes.{hash_if_there}
 use Rattle.tor_engine.specs.Readable.{IsNoReadFault, error_of_fault, hash_if_readable, piece_faults}
 use Rattle.tor_engine.specs.Readable.{read_faults}
-use Rattle.tor_engine.specs.declared.read_fault.ReadFault.{ReadFault}
+use Rattle.tor_engine.specs.declared.pieces.read_fault.ReadFault.{ReadFault}
 
 pub nil_both : {A : Type 0} (xs ys : List A) → xs ++ ys ≡ [] → (xs ≡ []) × (ys ≡ [])
 nil_both [] ys none = (refl, none)

@@ -12,10 +12,10 @@ use Rattle.tor_plan.specs.declared.units.PlanUnit.{PlanUnit}
 use Rattle.tor_source.specs.Source.{SourceFacts}
 use Rattle.tor_sums.specs.declared.errors.EngineError.{EngineError}
 use Rattle.tor_sums.specs.declared.errors.EngineError.TheVariants.{Resources}
-use Rattle.tor_engine.specs.declared.failure.Failure.{Failure}
-use Rattle.tor_engine.specs.declared.failure.Failure.TheVariants.{AtUnit, Memory}
-use Rattle.tor_engine.specs.declared.failure.UnitFailure.{UnitFailure}
-use Rattle.tor_engine.specs.declared.worker_share.Share.{Share}
+use Rattle.tor_engine.specs.declared.workers.failure.Failure.{Failure}
+use Rattle.tor_engine.specs.declared.workers.failure.Failure.TheVariants.{AtUnit, Memory}
+use Rattle.tor_engine.specs.declared.workers.failure.UnitFailure.{UnitFailure}
+use Rattle.tor_engine.specs.declared.workers.worker_share.Share.{Share}
 use Rattle.tor_engine.specs.steps.Failing.{AreJoined, both_of, error_of, least_of}
 use Rattle.tor_engine.specs.steps.Taken.{AnswersSeat, AreOfGiven, HasGiven, IsLeastFailure, IsSumOf, TakesUnits}
 use Rattle.tor_engine.specs.steps.Taken.{unit_at, without_tops}

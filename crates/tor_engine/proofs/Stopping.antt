@@ -3,9 +3,9 @@ use Rattle.std.proofs.Common.{◌≡◌, ◌⊎◌, true, false, nat_le, inl, in
 use Rattle.std.proofs.Common.{if◌then◌else◌}
 use Rattle.tor_sums.specs.declared.errors.EngineError.{EngineError}
 use Rattle.tor_sums.specs.declared.errors.EngineError.TheVariants.{Resources}
-use Rattle.tor_engine.specs.declared.failure.Failure.{Failure}
-use Rattle.tor_engine.specs.declared.failure.Failure.TheVariants.{AtUnit, Memory}
-use Rattle.tor_engine.specs.declared.failure.UnitFailure.{UnitFailure}
+use Rattle.tor_engine.specs.declared.workers.failure.Failure.{Failure}
+use Rattle.tor_engine.specs.declared.workers.failure.Failure.TheVariants.{AtUnit, Memory}
+use Rattle.tor_engine.specs.declared.workers.failure.UnitFailure.{UnitFailure}
 use Rattle.tor_engine.specs.steps.Failing.{error_of, is_resources, least_of, stopped_by}
 
 -- what holds of both failures does of the one that is answered

@@ -25,7 +25,7 @@ use Rattle.tor_sums.proofs.FileHashes.{allowed_with_trees, some_piece}
 use Rattle.tor_sums.proofs.UnitNodes.{have_one}
 use Rattle.tor_merkle.specs.PieceHash.{merkle_hash}
 use Rattle.tor_engine.specs.PieceHashes.{hash_of_parts}
-use Rattle.tor_engine.specs.declared.piece_hash.FoundPiece.{FoundPiece}
+use Rattle.tor_engine.specs.declared.pieces.piece_hash.FoundPiece.{FoundPiece}
 use Rattle.tor_engine.specs.steps.Pieces.{IsUnitToHash}
 use Rattle.tor_engine.specs.steps.Unsummed.{FindsPiece, IsTogether, found_of}
 use Rattle.tor_engine.proofs.OnePiece.{LengthOfSums}

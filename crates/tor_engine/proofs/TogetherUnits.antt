@@ -28,7 +28,7 @@ use Rattle.tor_sums.proofs.FileHashes.{some_piece}
 use Rattle.tor_engine.specs.PieceFault.{piece_fault}
 use Rattle.tor_engine.specs.PieceHashes.{hash_of_parts, piece_hash}
 use Rattle.tor_engine.specs.There.{is_within}
-use Rattle.tor_engine.specs.declared.piece_hash.FoundPiece.{FoundPiece}
+use Rattle.tor_engine.specs.declared.pieces.piece_hash.FoundPiece.{FoundPiece}
 use Rattle.tor_engine.specs.steps.Pieces.{AreTold, IsPiece, IsUnitToHash}
 use Rattle.tor_engine.specs.steps.Pieces.{unit_pieces_fault}
 use Rattle.tor_engine.specs.steps.Unsummed.{FindsPiece, found_of}

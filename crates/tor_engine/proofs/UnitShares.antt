@@ -6,9 +6,9 @@ use Rattle.tor_plan.specs.declared.units.PlanUnit.{PlanUnit}
 use Rattle.tor_source.specs.Source.{SourceFacts}
 use Rattle.tor_sums.specs.declared.errors.EngineError.{EngineError}
 use Rattle.tor_sums.specs.declared.errors.EngineError.TheVariants.{Resources}
-use Rattle.tor_engine.specs.declared.failure.Failure.{Failure}
-use Rattle.tor_engine.specs.declared.failure.Failure.TheVariants.{Memory}
-use Rattle.tor_engine.specs.declared.failure.UnitFailure.{UnitFailure}
+use Rattle.tor_engine.specs.declared.workers.failure.Failure.{Failure}
+use Rattle.tor_engine.specs.declared.workers.failure.Failure.TheVariants.{Memory}
+use Rattle.tor_engine.specs.declared.workers.failure.UnitFailure.{UnitFailure}
 use Rattle.tor_engine.specs.steps.Failing.{AnswersUnits, AreJoined, IsFailure, both_of, error_of, least_of}
 use Rattle.tor_engine.proofs.Failing.{both_fail, first_fails, second_decides}
 use Rattle.tor_engine.proofs.Stopping.{of_least}

@@ -12,9 +12,9 @@ use Rattle.tor_sums.specs.steps.Each.{SumUpEach}
 use Rattle.tor_sums.specs.steps.Owing.{paid_each}
 use Rattle.tor_engine.specs.PieceHashes.{hash_if_there}
 use Rattle.tor_engine.specs.There.{is_within}
-use Rattle.tor_engine.specs.declared.piece_hash.FoundPiece.{FoundPiece}
-use Rattle.tor_engine.specs.declared.piece_hash.FoundPiece.TheVariants.{Hashed, Missing, Unsummed}
-use Rattle.tor_engine.specs.declared.piece_work.UnitPieces.{UnitPieces}
+use Rattle.tor_engine.specs.declared.pieces.piece_hash.FoundPiece.{FoundPiece}
+use Rattle.tor_engine.specs.declared.pieces.piece_hash.FoundPiece.TheVariants.{Hashed, Missing, Unsummed}
+use Rattle.tor_engine.specs.declared.pieces.piece_work.UnitPieces.{UnitPieces}
 use Rattle.tor_engine.specs.steps.Pieces.{AreTold, HashesPieces, hashes_in, owed_to_piece, paid_piece}
 use Rattle.tor_engine.specs.steps.Unsummed.{FindsPiece, OwePieces, owed_to_pieces, paid_pieces}
 use Rattle.tor_sums.proofs.PaidSums.{can_pay, paid_up}

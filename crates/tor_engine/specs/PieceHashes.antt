@@ -12,7 +12,7 @@ use Rattle.tor_plan.specs.declared.units.PlanUnit.{PlanUnit}
 use Rattle.tor_tree.specs.Kinds.{has_v1, has_v2}
 use Rattle.tor_v1.specs.Piece.{piece_sums}
 use Rattle.tor_merkle.specs.PieceHash.{merkle_hash}
-use Rattle.tor_engine.specs.declared.piece_hash.PieceHash.{PieceHash}
+use Rattle.tor_engine.specs.declared.pieces.piece_hash.PieceHash.{PieceHash}
 
 -- all pieces of units, each as a unit (profile)
 abbrev pub pieces_of_units : ℕ → List PlanUnit → List PlanUnit

@@ -14,8 +14,8 @@ use Rattle.tor_sums.specs.declared.errors.EngineError.TheVariants.{Changed, Miss
 use Rattle.tor_engine.specs.PieceFault.{asked_fault, lengths_told, piece_fault}
 use Rattle.tor_engine.specs.PieceHashes.{hash_if_there, pieces_of_plan}
 use Rattle.tor_engine.specs.There.{is_within}
-use Rattle.tor_engine.specs.declared.piece_hash.PieceHash.{PieceHash}
-use Rattle.tor_engine.specs.declared.read_fault.ReadFault.{ReadFault}
+use Rattle.tor_engine.specs.declared.pieces.piece_hash.PieceHash.{PieceHash}
+use Rattle.tor_engine.specs.declared.pieces.read_fault.ReadFault.{ReadFault}
 
 -- a steady source as far as its lengths can be asked. A file whose length fails is missing (profile)
 abbrev pub seen : {F : Type 0} → SourceFacts F → SourceFacts F

@@ -1,7 +1,7 @@
 -- What one worker did with the units that it claimed at a board.
 use Rattle.std.specs.Prelude.{◌≡◌, ℕ, List, ◌++◌, map, reverse}
 use Rattle.tor_board.specs.Desks.{Desk, GivenUnit}
-use Rattle.tor_engine.specs.declared.worker_share.Share.{Share}
+use Rattle.tor_engine.specs.declared.workers.worker_share.Share.{Share}
 use Rattle.tor_sums.specs.declared.unit_sums.UnitSums.{UnitSums}
 
 -- a unit's number, and the hash that it was given with

@@ -5,7 +5,7 @@ use Rattle.tor_plan.specs.PlanFacts.{PlanFacts}
 use Rattle.tor_plan.specs.declared.units.Part.{Part}
 use Rattle.tor_plan.specs.declared.units.PlanUnit.{PlanUnit}
 use Rattle.tor_engine.specs.PieceHashes.{pieces_of_plan}
-use Rattle.tor_engine.specs.declared.piece_hash.PieceHash.{PieceHash}
+use Rattle.tor_engine.specs.declared.pieces.piece_hash.PieceHash.{PieceHash}
 
 -- the length that was told of a file; one that is missing has no byte
 abbrev pub length_told : List (Option ℕ) → ℕ → ℕ

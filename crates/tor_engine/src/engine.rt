@@ -9,7 +9,7 @@ ghost use Rattle.tor_sums.specs.Sums.{AreSumsOfPlan, AreSumsOfSome};
 
 use crate::lengths::expect_lengths;
 use crate::sum_work::SumWork;
-use crate::units::hash_units;
+use crate::workers::units::hash_units;
 use std::alloc::Global;
 use std::thread::Threads;
 use tor_plan::Plan;

@@ -6,7 +6,7 @@ ghost use Rattle.tor_sums.specs.Fault.{IsFault, ToldLengths, change_from, first_
 ghost use Rattle.tor_sums.specs.Fault.{length_fault};
 ghost use Rattle.tor_sums.specs.Given.{HasToldLengths, IsGiven, IsGivenAsked};
 
-use crate::asked::ask_one;
+use crate::pieces::asked::ask_one;
 use std::alloc::Global;
 use tor_source::Source;
 use tor_sums::EngineError;

@@ -11,7 +11,7 @@ ghost use Rattle.tor_sums.specs.UnitSums.{node_in};
 ghost use Rattle.tor_engine.specs.steps.RowSums.{IsRowOfSums};
 
 use crate::sum_work::SumWork;
-use crate::units::hash_units;
+use crate::workers::units::hash_units;
 use std::alloc::{AllocError, Global};
 use std::thread::Threads;
 use tor_merkle::Hash;

@@ -1,4 +1,14 @@
 //! The pieces of a plan hashed, of files that may be cut short or missing, and the lengths of these files.
+//!
+//! - `piece_hash.rt`: what a piece hashes to; `piece_hashes.rt`: these of many pieces, held unit by unit;
+//!   `piece_run.rt`: a run of pieces, cut out of a plan.
+//! - `asked.rt` asks for the lengths, `present.rt` tells by them what is there, and `piece_work.rt` hashes the pieces of
+//!   a unit, one after the other, or together if the unit is wholly there (`together.rt`); `found_row.rt` holds what was
+//!   found of a unit. `busy.rt` tells how many workers have something to do.
+//! - `readable.rt`: the same as far as the pieces can be read, and each fault (`read_fault.rt`). `asking.rt` asks for
+//!   the lengths, `seen.rt` is the source without the files whose lengths fail, and `readable_work.rt` hashes a unit at
+//!   once, and after a fault each of its pieces by itself (`alone.rt`); `probing.rt` reads the parts of one that failed,
+//!   and `readable_unit.rt` holds what was found.
 ghost use Rattle.std.specs.Prelude.{◌≡◌, ◌^◌, ◌≤◌, ℕ, All, List, None, Option, IfErr, IfOk, IsSome, MatchResult};
 ghost use Rattle.std.specs.Prelude.{OnOk, length, nat_le};
 ghost use Rattle.std.specs.List.{list_any};
@@ -17,13 +27,31 @@ ghost use Rattle.tor_sums.specs.steps.Given.{IsGivenKnown};
 ghost use Rattle.tor_engine.specs.steps.Pieces.{IsPaddingSum, IsUnitToHash, MayHavePadding};
 ghost use Rattle.tor_engine.specs.steps.Pieces.{has_long_zeros};
 
-use crate::asked::{ask_each, expect_each};
-use crate::busy::{keeps_busy, with_work};
-use crate::piece_hash::PieceHash;
-use crate::piece_hashes::PieceHashes;
-use crate::piece_run::units_of_pieces;
-use crate::piece_work::{Known, PieceWork};
-use crate::units::hash_units;
+pub(crate) mod alone;
+pub(crate) mod asked;
+pub(crate) mod asking;
+pub(crate) mod busy;
+pub(crate) mod found_row;
+pub(crate) mod piece_hash;
+pub(crate) mod piece_hashes;
+pub(crate) mod piece_run;
+pub(crate) mod piece_work;
+pub(crate) mod present;
+pub(crate) mod probing;
+pub(crate) mod read_fault;
+pub(crate) mod readable;
+pub(crate) mod readable_unit;
+pub(crate) mod readable_work;
+pub(crate) mod seen;
+pub(crate) mod together;
+
+use crate::pieces::asked::{ask_each, expect_each};
+use crate::pieces::busy::{keeps_busy, with_work};
+use crate::pieces::piece_hash::PieceHash;
+use crate::pieces::piece_hashes::PieceHashes;
+use crate::pieces::piece_run::units_of_pieces;
+use crate::pieces::piece_work::{Known, PieceWork};
+use crate::workers::units::hash_units;
 use std::alloc::{AllocError, Global};
 use std::thread::Threads;
 use tor_plan::{Forest, Part, Plan, PlanUnit};

@@ -8,7 +8,7 @@ ghost use Rattle.tor_sums.specs.steps.Owing.{Owes};
 ghost use Rattle.tor_sums.specs.steps.Run.{IsUnitToSum, OwesUnit, SumsUpUnit};
 ghost use Rattle.tor_engine.specs.Rows.{AreInFiles};
 
-use crate::unit_work::UnitWork;
+use crate::workers::unit_work::UnitWork;
 use std::alloc::{AllocError, Global};
 use tor_merkle::Hash;
 use tor_plan::{Plan, PlanUnit};

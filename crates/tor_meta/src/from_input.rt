@@ -14,10 +14,10 @@ ghost use Rattle.tor_source.specs.Input.{EndsInput, ReadsAll, ReadsSome};
 ghost use Rattle.tor_source.specs.declared.input.TheConstants.{MAX_INPUT_LENGTH};
 
 use crate::fed::FedSums;
+use crate::fed::making::{make_fed, make_summed};
 use crate::from_streams::refusal_of_stream_numbers;
 use crate::head::Head;
 use crate::make_error::MakeError;
-use crate::fed::making::{make_fed, make_summed};
 use crate::order::Order;
 use std::alloc::{AllocError, Global};
 use std::io;

@@ -20,7 +20,7 @@ ghost use Rattle.tor_tree.specs.FileList.{lengths_fault, paths_of};
 ghost use Rattle.tor_tree.specs.PathList.{AreIndexedPaths, IsPathList, with_indices};
 ghost use Rattle.tor_tree.specs.declared.lists.ListError.{ListError};
 
-use crate::before_lengths::{sorted_paths, refusal_of_shape};
+use crate::before_lengths::{refusal_of_shape, sorted_paths};
 use crate::from_source::without_letters;
 use crate::head::Head;
 use crate::listed_files::torrent_of_sums;

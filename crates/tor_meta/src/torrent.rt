@@ -13,10 +13,10 @@ ghost use Rattle.tor_spec.specs.Metainfo.{root_dictionary};
 ghost use Rattle.tor_spec.specs.PieceLayers.{piece_layers};
 ghost use Rattle.tor_tree.specs.Kinds.{has_v2};
 
-use crate::head::Head;
 use crate::fields::info::info;
 use crate::fields::items::{dictionary, push_field, text};
 use crate::fields::layers::piece_layers;
+use crate::head::Head;
 use std::alloc::{AllocError, Global};
 use tor_bencode::{BenError, Item, Tree, encode};
 use tor_engine::Sums;

@@ -40,7 +40,7 @@ pub use Rattle.tor_engine.specs.There.{HaveHashesOf, is_within}
 pub use Rattle.tor_sums.specs.declared.errors.EngineError.{EngineError}
 pub use Rattle.tor_sums.specs.declared.errors.EngineError.TheVariants.{Changed, Missing, Read, Resources}
 pub use Rattle.tor_sums.specs.declared.errors.EngineError.TheVariants.{StreamTooLong}
-pub use Rattle.tor_engine.specs.declared.piece_hash.PieceHash.{PieceHash}
+pub use Rattle.tor_engine.specs.declared.pieces.piece_hash.PieceHash.{PieceHash}
 pub use Rattle.tor_merkle.proofs.ProvedLaws.{range_same}
 pub use Rattle.tor_merkle.specs.Block.{leaves, run_at}
 pub use Rattle.tor_merkle.specs.Layer.{piece_level, pieces_root}

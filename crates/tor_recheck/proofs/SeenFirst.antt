@@ -11,7 +11,7 @@ use Rattle.std.specs.Prelude.{is_none, is_some}
 use Rattle.tor_engine.specs.PieceFault.{asked_fault, first_asked_fault, piece_fault, pieces_fault}
 use Rattle.tor_engine.specs.PieceHashes.{hash_if_there}
 use Rattle.tor_engine.specs.Readable.{error_of_fault, piece_faults, read_faults, seen}
-use Rattle.tor_engine.specs.declared.read_fault.ReadFault.{ReadFault}
+use Rattle.tor_engine.specs.declared.pieces.read_fault.ReadFault.{ReadFault}
 use Rattle.tor_plan.specs.Present.{is_there}
 use Rattle.tor_recheck.specs.Readable.{contents_seen, faults_seen, is_readable, readable_held, readable_pieces}
 use Rattle.tor_recheck.specs.Readable.{those_readable}

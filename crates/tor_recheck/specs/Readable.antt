@@ -4,7 +4,7 @@ use Rattle.std.specs.Prelude.{Option}
 use Rattle.std.specs.List.{flat_map, range_with_len}
 use Rattle.tor_engine.specs.PieceFault.{asked_fault, piece_fault}
 use Rattle.tor_engine.specs.Readable.{error_of_fault, piece_faults, read_faults, seen_contents}
-use Rattle.tor_engine.specs.declared.read_fault.ReadFault.{ReadFault}
+use Rattle.tor_engine.specs.declared.pieces.read_fault.ReadFault.{ReadFault}
 use Rattle.tor_plan.specs.Entries.{empty_unit}
 use Rattle.tor_view.specs.Files.{held_pieces}
 use Rattle.tor_view.specs.Pieces.{pieces_of}

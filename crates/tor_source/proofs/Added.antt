@@ -4,7 +4,7 @@ use Rattle.std.proofs.Common.{take, drop, refl, sym, ap, ◌∙◌, arith, appen
 use Rattle.std.specs.Prelude.{reverse, vec_items}
 use Rattle.std.proofs.lemmas.List.{drop-append-le, length_push, map_push, reverse-append, take-append-le, take_all}
 use Rattle.std.proofs.lemmas.List.Sorted.{Contains-permutation, IsPermutation-reverse, IsPermutation-sym}
-use Rattle.tor_source.specs.declared.walk.WaitingName.{WaitingName}
+use Rattle.tor_source.specs.declared.folder.walk.WaitingName.{WaitingName}
 use Rattle.tor_source.specs.steps.Order.{HasAdded, name_of}
 
 -- of all names the last ones were added, the last one first

@@ -8,7 +8,7 @@ use Rattle.std.proofs.lemmas.List.{take-append-le, take-take, take_all}
 use Rattle.std.proofs.lemmas.List.Elements.{All-nil, All-push, recursion_from_All}
 use Rattle.tor_source.proofs.Waiting.{waiting_first, waiting_found, waiting_rest}
 use Rattle.tor_source.specs.steps.Order.{AreNested, IsAhead, IsEntered, IsWaiting, path_in}
-use Rattle.tor_source.specs.declared.walk.WaitingName.{WaitingName}
+use Rattle.tor_source.specs.declared.folder.walk.WaitingName.{WaitingName}
 
 -- entries, and the path that was entered last
 same_path : (last : List (List ℕ)) (name : List ℕ) (deep : ℕ) (entry : WaitingName) → deep ≤ length last

@@ -7,9 +7,9 @@ use Rattle.std.proofs.lemmas.List.Elements.{All-nil, All-push, recursion_from_Al
 use Rattle.tor_tree.specs.Path.{path_cmp}
 use Rattle.tor_source.proofs.Waiting.{next_before}
 use Rattle.tor_source.specs.steps.Order.{HasFound, HasRefused, HasTaken, IsEntered, path_in}
-use Rattle.tor_source.specs.declared.found.FoundFiles.{FoundFiles}
+use Rattle.tor_source.specs.declared.folder.found.FoundFiles.{FoundFiles}
 use Rattle.tor_source.specs.declared.refused.Refusal.{Refusal}
-use Rattle.tor_source.specs.declared.walk.WaitingName.{WaitingName}
+use Rattle.tor_source.specs.declared.folder.walk.WaitingName.{WaitingName}
 use Rattle.tor_tree.specs.declared.paths.TheConstants.{MAX_NAMES}
 
 -- a list that rises, without its last element

@@ -9,7 +9,7 @@ use Rattle.tor_tree.specs.Path.{name_eq}
 use Rattle.tor_source.proofs.SameNames.{same_bytes}
 use Rattle.tor_source.specs.Named.{AreParted, path_of}
 use Rattle.tor_source.specs.Places.{names_bytes}
-use Rattle.tor_source.specs.declared.found.FoundFiles.{FoundFiles}
+use Rattle.tor_source.specs.declared.folder.found.FoundFiles.{FoundFiles}
 use Rattle.tor_source.specs.declared.refused.Refusal.{Refusal}
 use Rattle.tor_source.specs.declared.refused.Refused.{Refused}
 use Rattle.tor_source.specs.steps.Named.{HasLookedFor}

@@ -1,4 +1,12 @@
 //! Where the system has the files below a folder, or a file by itself.
+//!
+//! - `walk.rt` finds the files below a folder, `named.rt` those of a list, both into `found.rt`; `folder_names.rt` reads
+//!   the names in a folder. `open_folders.rt` holds folders open meanwhile, `deep_folders.rt` those deeper than a file
+//!   may be. `extra.rt`: what is below a folder and none of given files.
+//! - `unlinked.rt`: a source that follows no link, and how its files stand.
+//! - `places.rt`: the places of files, each written when it is asked for, into a `Place` (`place.rt`). `regular.rt` reads
+//!   what stands at a place, `listed_file.rt` a file that has to be as it was listed, and `same_file.rt` tells whether
+//!   two places have one file.
 ghost use Rattle.std.specs.Prelude.{◌≡◌, ◌⊎◌, ◌<◌, ◌≤◌, ◌∷◌, [], Err, None, Ok, IfErr, IfOk, false, length, map};
 ghost use Rattle.std.specs.Prelude.{IsOk, List, vec_len};
 ghost use Rattle.std.specs.List.{All};
@@ -13,18 +21,31 @@ ghost use Rattle.tor_source.specs.declared.refused.Refused.{Refused};
 ghost use Rattle.tor_tree.specs.declared.paths.TheConstants.{MAX_NAMES};
 ghost use Rattle.tor_tree.specs.Path.{path_cmp};
 
+pub(crate) mod deep_folders;
+pub(crate) mod extra;
+pub(crate) mod folder_names;
+pub(crate) mod found;
+pub(crate) mod listed_file;
+pub(crate) mod named;
+pub(crate) mod open_folders;
+pub(crate) mod place;
+pub(crate) mod places;
+pub(crate) mod regular;
+pub(crate) mod same_file;
+pub(crate) mod unlinked;
+pub(crate) mod walk;
+
 use crate::faults::ScanFault;
-use crate::found::FoundFiles;
+use crate::folder::found::FoundFiles;
+use crate::folder::listed_file::{ListedFiles, read_listed};
+use crate::folder::named::find;
+use crate::folder::place::Place;
+use crate::folder::places::Places;
+use crate::folder::unlinked::{Met, is_among};
+use crate::folder::walk::walk;
 use crate::lazy::{LazyFile, readers_of};
-use crate::listed_file::{ListedFiles, read_listed};
-use crate::named::find;
-use crate::place::Place;
-use crate::places::Places;
 use crate::refused::Refused;
 use crate::source::Source;
-use crate::unlinked::{Met, is_among};
-use crate::walk::walk;
-use crate::{regular, same_file};
 use std::alloc::{AllocError, Global};
 use std::fs::Metadata;
 use std::io;

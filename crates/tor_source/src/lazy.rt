@@ -4,10 +4,10 @@ ghost use Rattle.std.specs.Io.{ReadsAtMost};
 ghost use Rattle.std.specs.Io.KnownBytes.{ReadConsumes};
 ghost use Rattle.std.specs.String.{string_bytes};
 
-use crate::listed_file::{ListedFile, ListedFiles, changed, open_listed};
-use crate::places::Places;
-use crate::regular;
-use crate::unlinked::Met;
+use crate::folder::listed_file::{ListedFile, ListedFiles, changed, open_listed};
+use crate::folder::places::Places;
+use crate::folder::regular;
+use crate::folder::unlinked::Met;
 use std::alloc::{AllocError, Global};
 use std::io::{self, ErrorKind, Read};
 use std::marker::Model;

@@ -14,9 +14,9 @@
 //! ```
 //!
 //! - [`Source`] (`source.rt`): files by their numbers; what a steady source answers.
-//! - [`FolderSource`] (`folder.rt`): the files below a folder, or a file by itself, as the system has them. [`Survey`]:
-//!   those that can be taken, and each [`Refused`] one with its [`Refusal`] (`refused.rt`).
-//!   [`extra_paths`] (`extra.rt`): what of these is none of given files.
+//! - [`FolderSource`] (`folder.rt` and its folder): the files below a folder, or a file by itself, as the system has
+//!   them. [`Survey`]: those that can be taken, and each [`Refused`] one with its [`Refusal`] (`refused.rt`).
+//!   [`extra_paths`]: what of these is none of given files.
 //! - [`MemSource`] (`memory.rt`), [`FailSource`] (`failing.rt`), [`ShortSource`] (`short.rt`): files in memory, with
 //!   faults at chosen offsets, or read in small steps.
 //! - [`LazyFile`] (`lazy.rt`): a file of the system that is read once and in order.
@@ -26,51 +26,32 @@
 //!   the [`InputFault`] that ended it. [`Intake`] (`intake.rt`): what takes the parts. [`fill`] (`filling.rt`): a
 //!   buffer filled from a reader, or the [`FillFault`]; [`zeros`] (`buffer.rt`): room to read into.
 //! - [`laws`] (`laws.rt`): laws over the sources in memory, and the limits of an input.
-//!
-//! `walk.rt` finds the files below a folder, `named.rt` those of a list, both into `found.rt`; `folder_names.rt` reads
-//! the names in a folder. `open_folders.rt` holds folders open meanwhile, `deep_folders.rt` those deeper than a file may
-//! be. `unlinked.rt` has a source that follows no link, and tells how its files stand. `places.rt` has the places of
-//! files, each written when it is asked for, into a `Place` (`place.rt`); `regular.rt` reads what stands at a place,
-//! `listed_file.rt` a file that has to be as it was listed, and `same_file.rt` tells whether two places have one file.
 #![tactic(auto)]
 
 mod buffer;
-mod deep_folders;
-mod extra;
 mod failing;
 mod faults;
 mod filling;
 mod folder;
-mod folder_names;
-mod found;
 mod input;
 mod intake;
 pub mod laws;
 mod lazy;
-mod listed_file;
 mod memory;
-mod named;
-mod open_folders;
-mod place;
-mod places;
 mod refused;
-mod regular;
-mod same_file;
 mod short;
 mod source;
-mod unlinked;
-mod walk;
 
 pub use buffer::zeros;
-pub use extra::extra_paths;
 pub use failing::FailSource;
 pub use faults::{ScanFault, is_absence};
 pub use filling::{FillFault, fill};
+pub use folder::extra::extra_paths;
+pub use folder::listed_file::FileNumber;
 pub use folder::{FolderSource, Survey};
 pub use input::{InputFault, MAX_INPUT_LENGTH, drop_input, read_limited, read_parts};
 pub use intake::{Dropped, Intake};
 pub use lazy::LazyFile;
-pub use listed_file::FileNumber;
 pub use memory::MemSource;
 pub use refused::{OtherKind, Refusal, Refused};
 pub use short::ShortSource;

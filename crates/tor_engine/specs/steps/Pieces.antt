@@ -18,10 +18,10 @@ use Rattle.tor_engine.specs.PieceFault.{pieces_fault}
 use Rattle.tor_engine.specs.PieceHashes.{hash_if_there}
 use Rattle.tor_engine.specs.There.{HaveHashesOf}
 use Rattle.tor_sums.specs.declared.errors.EngineError.{EngineError}
-use Rattle.tor_engine.specs.declared.piece_hash.FoundPiece.{FoundPiece}
-use Rattle.tor_engine.specs.declared.piece_hash.FoundPiece.TheVariants.{Hashed, Missing, Unsummed}
-use Rattle.tor_engine.specs.declared.piece_hash.PieceHash.{PieceHash}
-use Rattle.tor_engine.specs.declared.piece_hash.TheConstants.{SUM_LENGTH}
+use Rattle.tor_engine.specs.declared.pieces.piece_hash.FoundPiece.{FoundPiece}
+use Rattle.tor_engine.specs.declared.pieces.piece_hash.FoundPiece.TheVariants.{Hashed, Missing, Unsummed}
+use Rattle.tor_engine.specs.declared.pieces.piece_hash.PieceHash.{PieceHash}
+use Rattle.tor_engine.specs.declared.pieces.piece_hash.TheConstants.{SUM_LENGTH}
 use Rattle.tor_sums.specs.steps.Hashes.{bytes_of_part}
 use Rattle.tor_sums.specs.steps.Run.{IsUnitOf}
 

@@ -15,9 +15,9 @@ use Rattle.tor_sums.specs.steps.Each.{SumUpEach}
 use Rattle.tor_sums.specs.steps.Given.{IsGivenRead, lengths_of_sizes}
 use Rattle.tor_engine.specs.Readable.{HasHashWithin, error_of_fault, hash_if_readable, piece_faults}
 use Rattle.tor_engine.specs.There.{HaveHashesOf}
-use Rattle.tor_engine.specs.declared.piece_hash.PieceHash.{PieceHash}
-use Rattle.tor_engine.specs.declared.read_fault.ReadFault.{ReadFault}
-use Rattle.tor_engine.specs.declared.readable_unit.ReadableUnit.{ReadableUnit}
+use Rattle.tor_engine.specs.declared.pieces.piece_hash.PieceHash.{PieceHash}
+use Rattle.tor_engine.specs.declared.pieces.read_fault.ReadFault.{ReadFault}
+use Rattle.tor_engine.specs.declared.pieces.readable_unit.ReadableUnit.{ReadableUnit}
 use Rattle.tor_engine.specs.steps.Pieces.{AreTold, hashes_in}
 use Rattle.tor_engine.specs.steps.ReadableUnit.{faults_found, unit_found}
 

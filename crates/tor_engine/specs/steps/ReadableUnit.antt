@@ -1,9 +1,9 @@
 -- What was found of a unit as far as its bytes can be read. Only private clauses cite this.
 use Rattle.std.specs.Prelude.{List, []}
-use Rattle.tor_engine.specs.declared.piece_work.UnitPieces.{UnitPieces}
-use Rattle.tor_engine.specs.declared.read_fault.ReadFault.{ReadFault}
-use Rattle.tor_engine.specs.declared.readable_unit.ReadableUnit.{ReadableUnit}
-use Rattle.tor_engine.specs.declared.readable_unit.ReadableUnit.TheVariants.{Clean, Faulty}
+use Rattle.tor_engine.specs.declared.pieces.piece_work.UnitPieces.{UnitPieces}
+use Rattle.tor_engine.specs.declared.pieces.read_fault.ReadFault.{ReadFault}
+use Rattle.tor_engine.specs.declared.pieces.readable_unit.ReadableUnit.{ReadableUnit}
+use Rattle.tor_engine.specs.declared.pieces.readable_unit.ReadableUnit.TheVariants.{Clean, Faulty}
 
 -- what is known of its pieces
 abbrev pub unit_found : {F : Type 0} → ReadableUnit F → UnitPieces

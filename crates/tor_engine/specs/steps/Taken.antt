@@ -11,11 +11,11 @@ use Rattle.tor_plan.specs.declared.units.PlanUnit.{PlanUnit}
 use Rattle.tor_source.specs.Source.{SourceFacts}
 use Rattle.tor_sums.specs.Fault.{IsFault}
 use Rattle.tor_sums.specs.declared.errors.EngineError.{EngineError}
-use Rattle.tor_engine.specs.declared.failure.Failure.{Failure}
-use Rattle.tor_engine.specs.declared.failure.Failure.TheVariants.{AtUnit, Memory}
-use Rattle.tor_engine.specs.declared.failure.UnitFailure.{UnitFailure}
+use Rattle.tor_engine.specs.declared.workers.failure.Failure.{Failure}
+use Rattle.tor_engine.specs.declared.workers.failure.Failure.TheVariants.{AtUnit, Memory}
+use Rattle.tor_engine.specs.declared.workers.failure.UnitFailure.{UnitFailure}
 use Rattle.tor_sums.specs.declared.owing.OwingSums.{OwingSums}
-use Rattle.tor_engine.specs.declared.worker_share.Share.{Share}
+use Rattle.tor_engine.specs.declared.workers.worker_share.Share.{Share}
 use Rattle.tor_engine.specs.steps.Failing.{error_of, stopped_by}
 pub use Rattle.tor_engine.specs.Shares.{given_pairs}
 pub use Rattle.tor_sums.specs.UnitSums.{unit_at}

@@ -13,9 +13,9 @@ use Rattle.tor_sums.specs.steps.Each.{OweEach}
 use Rattle.tor_sums.specs.steps.Owing.{paid_each}
 use Rattle.tor_engine.specs.PieceHashes.{hash_if_there}
 use Rattle.tor_engine.specs.There.{is_within}
-use Rattle.tor_engine.specs.declared.piece_hash.FoundPiece.{FoundPiece}
-use Rattle.tor_engine.specs.declared.piece_hash.FoundPiece.TheVariants.{Hashed, Unsummed}
-use Rattle.tor_engine.specs.declared.piece_work.UnitPieces.{UnitPieces}
+use Rattle.tor_engine.specs.declared.pieces.piece_hash.FoundPiece.{FoundPiece}
+use Rattle.tor_engine.specs.declared.pieces.piece_hash.FoundPiece.TheVariants.{Hashed, Unsummed}
+use Rattle.tor_engine.specs.declared.pieces.piece_work.UnitPieces.{UnitPieces}
 use Rattle.tor_engine.specs.steps.Pieces.{AreTold, hashes_in, owed_to_piece, paid_piece}
 
 -- this was found of a piece of files with these lengths, and so much is owed to it: of a steady source it has then the

@@ -20,8 +20,8 @@ ghost use Rattle.tor_v1.specs.Entries.{v1_entries, with_letters};
 ghost use Rattle.tor_v1.specs.Reserved.{takes_reserved};
 
 use crate::fields::entries::entries;
-use crate::head::Head;
 use crate::fields::items::{dictionary, files, letters, number, push_field, text};
+use crate::head::Head;
 use std::alloc::{AllocError, Global};
 use tor_bencode::Item;
 use tor_engine::Sums;

@@ -11,8 +11,8 @@ ghost use Rattle.tor_meta.specs.steps.PlanText.{fields_before_name, fields_from_
 ghost use Rattle.tor_spec.specs.Dictionary.{present, when};
 ghost use Rattle.tor_tree.specs.FileList.{files_with_attrs};
 
-use crate::head::Head;
 use crate::fields::items::{dictionary, number, push_field, text};
+use crate::head::Head;
 use std::alloc::{AllocError, Global};
 use tor_bencode::{BenError, Item, Tree, encode};
 use tor_tree::{Attr, FilePath, Kind, Name};

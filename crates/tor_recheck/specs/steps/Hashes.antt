@@ -1,7 +1,7 @@
 -- What a recheck hashes. Only private clauses cite this.
 use Rattle.std.specs.Prelude.{ℕ, List, Option}
 use Rattle.tor_engine.specs.PieceHashes.{hashes_of_pieces, piece_hashes}
-use Rattle.tor_engine.specs.declared.piece_hash.PieceHash.{PieceHash}
+use Rattle.tor_engine.specs.declared.pieces.piece_hash.PieceHash.{PieceHash}
 use Rattle.tor_plan.specs.PlanFacts.{PlanFacts, plan_of_entries}
 use Rattle.tor_recheck.specs.Lots.{in_lot}
 use Rattle.tor_view.specs.Pieces.{entries_to_cut, pieces_of}

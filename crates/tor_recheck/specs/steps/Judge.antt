@@ -3,7 +3,7 @@ use Rattle.std.specs.Prelude.{ℕ, Bool, true, false, ◌&&◌, List, [], length
 use Rattle.std.specs.Prelude.{if◌then◌else◌}
 use Rattle.std.specs.List.{range_with_len}
 use Rattle.std.specs.Str.{bytes_eq}
-use Rattle.tor_engine.specs.declared.piece_hash.PieceHash.{PieceHash}
+use Rattle.tor_engine.specs.declared.pieces.piece_hash.PieceHash.{PieceHash}
 use Rattle.tor_merkle.specs.Block.{run_at}
 use Rattle.tor_view.specs.Pieces.{told_hashes}
 use Rattle.tor_spec.specs.valid.View.{View}

@@ -7,8 +7,8 @@ use Rattle.tor_source.specs.Faults.{is_absence}
 use Rattle.tor_source.specs.declared.refused.OtherKind.TheVariants as other
 use Rattle.tor_source.specs.declared.refused.Refusal.{Refusal}
 use Rattle.tor_source.specs.declared.refused.Refusal.TheVariants as refusal
-use Rattle.tor_source.specs.declared.unlinked.Met.{Met}
-use Rattle.tor_source.specs.declared.unlinked.Met.TheVariants.{Link, Nothing, Untold}
+use Rattle.tor_source.specs.declared.folder.unlinked.Met.{Met}
+use Rattle.tor_source.specs.declared.folder.unlinked.Met.TheVariants.{Link, Nothing, Untold}
 
 -- a fault that says that nothing is there, or another
 abbrev pub met_of_kind : ErrorKind → Met

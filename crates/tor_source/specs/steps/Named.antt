@@ -2,9 +2,9 @@
 use Rattle.std.specs.Prelude.{◌≡◌, ◌≤◌, ℕ, List, length, map, vec_len}
 use Rattle.std.specs.List.{All}
 use Rattle.tor_source.specs.Named.{AreParted, path_of}
-use Rattle.tor_source.specs.declared.found.FoundFiles.{FoundFiles}
-use Rattle.tor_source.specs.declared.named.Sought.{Sought}
-use Rattle.tor_source.specs.declared.named.Sought.TheVariants.{File, NotTaken}
+use Rattle.tor_source.specs.declared.folder.found.FoundFiles.{FoundFiles}
+use Rattle.tor_source.specs.declared.folder.named.Sought.{Sought}
+use Rattle.tor_source.specs.declared.folder.named.Sought.TheVariants.{File, NotTaken}
 use Rattle.tor_tree.specs.declared.paths.TheConstants.{MAX_NAMES}
 
 -- of these files each was taken or refused, and each that was taken has at most 64 names

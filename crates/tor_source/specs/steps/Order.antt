@@ -5,12 +5,12 @@ use Rattle.std.specs.List.Sorted.{IsStrictlySortedBy}
 use Rattle.std.specs.declared.cmp.Ordering.TheVariants.{Less}
 use Rattle.tor_tree.specs.Path.{name_cmp, path_cmp}
 use Rattle.tor_source.specs.steps.Listing.{HasSameNames}
-use Rattle.tor_source.specs.declared.walk.WaitingName.{WaitingName}
-use Rattle.tor_source.specs.declared.found.FoundFiles.{FoundFiles}
+use Rattle.tor_source.specs.declared.folder.walk.WaitingName.{WaitingName}
+use Rattle.tor_source.specs.declared.folder.found.FoundFiles.{FoundFiles}
 use Rattle.tor_source.specs.declared.refused.Refusal.{Refusal}
 use Rattle.tor_source.specs.declared.refused.Refused.{Refused}
-use Rattle.tor_source.specs.declared.walk.Standing.{Standing}
-use Rattle.tor_source.specs.declared.walk.Standing.TheVariants.{File, Folder, NotTaken}
+use Rattle.tor_source.specs.declared.folder.walk.Standing.{Standing}
+use Rattle.tor_source.specs.declared.folder.walk.Standing.TheVariants.{File, Folder, NotTaken}
 use Rattle.tor_tree.specs.declared.paths.TheConstants.{MAX_NAMES}
 
 -- the paths of the files that were found strictly rise and have at most 64 names, and of each something was told

@@ -40,8 +40,11 @@ torrent_of_listing-requires c =
           ∙ ap₂ (λ p ls. roots_over p ls hashes) is.piece_length is.lengths in
           subst (λ (roots : List (Option (List ℕ))). AllZip HasItsRoot files roots) (sym there)
           (roots_there head.piece_length
-          (omega (arith, ((piece_length_bounds head.piece_length).0
-          c.plans_are_of_torrents.ensures.lawful.judged.piece_length).1)) files hashes
+          (omega (
+            arith,
+            ((piece_length_bounds head.piece_length).0
+                c.plans_are_of_torrents.ensures.lawful.judged.piece_length).1,
+          )) files hashes
           (c.requires.counted.hashes
           ∙ ap (λ b. cond b (pieces_of_lengths plan.piece_length plan.lengths) 0) (ap has_v2 is.kind ∙ trees)
           ∙ ap₂ pieces_of_lengths is.piece_length is.lengths));

@@ -1,0 +1,12 @@
+use Rattle.std.proofs.Common.{◌+◌, ◌*◌}
+use Rattle.tor_engine.proofs.workers.halves.+by_halves+fn-by_halves-join+arg2+fn-by_halves-join+arg3.Given as goal
+
+-- half as many workers are left on each side
+abbrev pub decreases-join+arg2 : goal.decreases-join+arg2
+decreases-join+arg2 g l = 2 * l.fewer + 1
+
+abbrev pub decreases-join+arg3 : goal.decreases-join+arg3
+decreases-join+arg3 g l = 2 * l.rest + 1
+
+abbrev pub decreases-by_halves : goal.decreases-by_halves
+decreases-by_halves g l = 2 * l.workers
