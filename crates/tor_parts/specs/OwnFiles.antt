@@ -50,7 +50,7 @@ IsGivenOwn answers lengths error = HasCause (record {
 }) error
 
 -- an error names no file but one of these: a fault is of one of them, be it of the length or of a byte, so is a change,
--- and so is what is missing; no stream is read
+-- and so is what is missing; no stream is read (profile)
 abbrev pub IsOfFiles : {F : Type 0} → List ℕ → EngineError F → Type 0
 IsOfFiles files (Read file start fault) = Contains files file
 IsOfFiles files (Changed file) = Contains files file
