@@ -30,14 +30,14 @@ pub no_lot : (options : LotOptions) (plan : List ℕ) → IsHow options.how → 
     → OfPlan plan (λ text. IsGivenOwn (system_answers (length text.list.files)) (lengths_of text.list.files) fault
     × IsOfFiles (files_of (dealt options.lot.lots options.lot.number (plan_of_text text).units)) fault)
     → IsNoLot options plan (of_make_error (of_engine_error fault))
-no_lot options plan allowed (engine.Read file start why) (text, is, same, (gave, own)) =
-    (allowed, (text, is, same, (engine.Read file start why, refl, gave, own)))
-no_lot options plan allowed (engine.Changed file) (text, is, same, (gave, own)) =
-    (allowed, (text, is, same, (engine.Changed file, refl, gave, own)))
-no_lot options plan allowed (engine.Missing file) (text, is, same, (gave, own)) =
-    (allowed, (text, is, same, (engine.Missing file, refl, gave, own)))
-no_lot options plan allowed (engine.StreamTooLong file) (text, is, same, (gave, own)) =
-    (allowed, (text, is, same, (engine.StreamTooLong file, refl, gave, own)))
+no_lot options plan allowed (engine.Read file start why) (text, is, same, accepted, (gave, own)) =
+    (allowed, (text, is, same, accepted, (engine.Read file start why, refl, λ none. cc, gave, own)))
+no_lot options plan allowed (engine.Changed file) (text, is, same, accepted, (gave, own)) =
+    (allowed, (text, is, same, accepted, (engine.Changed file, refl, λ none. cc, gave, own)))
+no_lot options plan allowed (engine.Missing file) (text, is, same, accepted, (gave, own)) =
+    (allowed, (text, is, same, accepted, (engine.Missing file, refl, λ none. cc, gave, own)))
+no_lot options plan allowed (engine.StreamTooLong file) (text, is, same, accepted, (gave, own)) =
+    (allowed, (text, is, same, accepted, (engine.StreamTooLong file, refl, λ none. cc, gave, own)))
 no_lot options plan allowed engine.Resources given = tt
 
 module _ (options : JoinOptions) (s : Streams) (untouched : IsUntouched s) where

@@ -34,8 +34,8 @@ pub struct PieceRow {
 /// What the pieces hash to of the units from the number `from` on, and before the number `to`: file i of the plan is
 /// file i of the source. If the source has at these units the bytes of contents of the plan's lengths, whatever it has
 /// elsewhere, the row is that of these contents. The first fault in the order of these units is answered, whatever the
-/// `How`: no length is asked, and a file that ends before a byte that is wanted of it is answered as changed, or by the
-/// fault of that byte, which a source may have past the end.
+/// `How`: no length is asked, and a file that ends before a byte that is wanted of it is answered as changed. So it is
+/// unless a byte of these units fails past the end of its file: of such a byte either answer is right.
 pub fn hash_lot<S: Source, R: Threads + Sync>(
     rt: &R,
     alloc: Global,

@@ -164,10 +164,11 @@ pub record IsJoined (plan : List ℕ) (texts : List (List ℕ)) (bytes : List �
   pub are_all : AreAllLots (plan_of_text text) (pieces_root plan) texts count lots
   pub torrent : IsTorrentOfLots text count lots bytes
 
--- why they are not joined: the plan is none or is refused, or the texts are not all its lots (profile)
+-- why they are not joined: the plan is none or is refused, which comes first, or the texts are not all its lots
+-- (profile)
 abbrev pub IsJoinRefusal : List ℕ → List (List ℕ) → JoinError → Type 0
 IsJoinRefusal plan texts (join.Plan error) = IsPlanRefusal plan error
 IsJoinRefusal plan texts join.Memory = Unit {0}
 IsJoinRefusal plan texts error =
-    (text : PlanText) × IsPlanText text × (plan ≡ plan_bytes text)
+    (text : PlanText) × IsPlanText text × (plan ≡ plan_bytes text) × (listing_refusal text ≡ None)
     × AreNotAll (plan_of_text text) (pieces_root plan) texts error

@@ -1,4 +1,5 @@
-//! The torrent of one content that is fed in parts, under the torrent's name.
+//! The torrent of one content that is fed in parts, under the torrent's name. `fed/fed_intake.rt` takes the parts that
+//! are read, `fed/making.rt` makes the torrent of their sums.
 ghost use Rattle.std.specs.Prelude.{◌≡◌, ◌+◌, ◌≤◌, ◌∷◌, [], ℕ, List, None, Some, IfOk, IsOk, OnErr, OnOk, length};
 ghost use Rattle.std.specs.Int.{div_ceil};
 ghost use Rattle.std.specs.Option.{ForSome};

@@ -1,4 +1,4 @@
-//! From a reader to the torrent of what it has, in a writer.
+//! From a reader to the torrent of what it has, as bytes or in a writer.
 ghost use Rattle.std.specs.Prelude.{◌≡◌, ◌⊎◌, ◌∷◌, [], List, ℕ, Option, None, Some, IfErr, IfOk, OnOk};
 ghost use Rattle.std.specs.declared.io.Error.{Error};
 ghost use Rattle.tor_meta.specs.FromInput.{MakesOf, MakesPart, MakesWhole, StopsReading, refusal_of};

@@ -22,7 +22,7 @@ use tor_plan::Plan;
 /// Whatever the hashes are, it is that with these hashes as layers, the roots over them, and these SHA-1. If the rows
 /// are those of the same contents at all lots, it is the torrent of the contents. If each lot was hashed of files of
 /// its own, it is that of contents that have at each lot the bytes that these files have there.
-pub fn torrent_of_rows(
+pub(crate) fn torrent_of_rows(
     alloc: Global,
     listing: &Listing,
     plan: &Plan,

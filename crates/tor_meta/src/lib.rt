@@ -12,7 +12,7 @@
 //! - [`make_streams_with`], [`make_streams`] (`from_streams.rt`): the torrent of readers that are read once, in the
 //!   order of their paths, with letters and without.
 //! - [`Listing`] (`listing.rt`): a head, the files of its torrent and how they are cut, judged, or the [`ListingError`]
-//!   for which there is none. [`torrent_of_rows`] (`from_rows.rt`): its torrent, of pieces that were hashed in lots.
+//!   for which there is none. `from_rows.rt`: its torrent, of pieces that were hashed in lots.
 //! - [`make_plan`], [`write_plan`], [`read_plan`], [`JudgedPlan`] (`plans.rt` and its folder): a listing as bytes, for
 //!   many machines, or the [`PlanError`] (`listing_error.rt`) for which these are none. [`make_lot`], [`files_of_lot`]:
 //!   one lot of a plan, and its files. [`join_lots`]: the torrent of a plan and its lots, or the [`JoinError`]
@@ -67,7 +67,6 @@ pub use contents::make_contents;
 pub use fed::making::make_fed;
 pub use fed::{FedSums, refusal_of_one};
 pub use from_input::{FromFault, make_from, torrent_by_streams, torrent_from};
-pub use from_rows::torrent_of_rows;
 pub use from_source::{make, make_with};
 pub use from_streams::{make_streams, make_streams_with};
 pub use head::Head;

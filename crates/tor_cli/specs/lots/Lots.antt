@@ -4,9 +4,9 @@ use Rattle.std.specs.Prelude.{◌≡◌, ◌≢◌, ◌⊎◌, ℕ, [], IsSome, 
 use Rattle.std.specs.Prelude.{◌&&◌, ◌==◌, ◌∷◌, Bool, if◌then◌else◌, slice_index_or, string_bytes}
 use Rattle.std.specs.declared.io.Error.{Error}
 use Rattle.tor_merkle.specs.Layer.{pieces_root}
-use Rattle.tor_meta.specs.Listing.{IsPlanRefusal}
+use Rattle.tor_meta.specs.Listing.{IsPlanRefusal, listing_refusal}
 use Rattle.tor_meta.specs.Lots.{IsJoinRefusal, IsJoined, IsLotOf, plan_of_text}
-use Rattle.tor_meta.specs.MakeError.{of_engine_error}
+use Rattle.tor_meta.specs.MakeError.{of_engine_error, out_of_resources}
 use Rattle.tor_meta.specs.PlanText.{IsPlanText, PlanText, plan_bytes}
 use Rattle.tor_meta.specs.declared.join_error.JoinError.{JoinError}
 use Rattle.tor_meta.specs.declared.join_error.JoinError.TheVariants as joins
@@ -32,9 +32,10 @@ use Rattle.tor_cli.specs.declared.lots.join_words.JoinOptions.{JoinOptions}
 use Rattle.tor_cli.specs.declared.lots.lot_words.LotOptions.{LotOptions}
 use Rattle.tor_cli.specs.declared.lots.lot_number.LotNumber.{LotNumber}
 
--- what the plan that has these bytes tells, of which this holds
+-- what the plan that has these bytes tells, of which a torrent is made, and of which this holds
 abbrev pub OfPlan : List ℕ → (PlanText → Type 0) → Type 0
-OfPlan plan Holds = (text : PlanText) × IsPlanText text × (plan ≡ plan_bytes text) × Holds text
+OfPlan plan Holds = (text : PlanText) × IsPlanText text × (plan ≡ plan_bytes text) × (listing_refusal text ≡ None)
+    × Holds text
 
 -- the bytes are this lot of the plan that has these bytes, of some contents that have its lengths (profile)
 abbrev pub IsLotAt : LotNumber → List ℕ → List ℕ → Type 0
@@ -52,7 +53,7 @@ file_of_lot options = option_map (λ place. place.now) options.out
 abbrev pub IsNoLotOf : LotOptions → List ℕ → Fault → Type 0
 IsNoLotOf options plan (Plan error) = IsPlanRefusal plan error × (error ≢ plans.Memory)
 IsNoLotOf options plan (Make error) = OfPlan plan (λ text. (fault : EngineError Error)
-    × (error ≡ of_engine_error fault)
+    × (error ≡ of_engine_error fault) × (error ≢ out_of_resources)
     × IsGivenOwn (system_answers (length text.list.files)) (lengths_of text.list.files) fault
     × IsOfFiles (files_of (dealt options.lot.lots options.lot.number (plan_of_text text).units)) fault)
 IsNoLotOf options plan OutAmongFiles = IsSome (file_of_lot options)

@@ -111,6 +111,8 @@ fn lot_of_source<T: Threads + Sync>(
 ) -> Result<Vec<u8>, Fault>
     requires allowed { IsHow options.now.how }
     requires count { length source.now ≡ length plan.now.listing.list.files }
+    requires places { source.now ≡ places_of_list options.now.place.now plan.now.listing.head.single
+        (paths_of plan.now.listing.list.files) }
     ensures made { IfOk result (λ bytes. IsLotAt options.now.lot (bytes_of_plan plan.now) bytes.items) }
     ensures some { IfOk result (λ bytes. 0 < length bytes.items) }
     ensures stopped { IfErr result (IsNoLot options.now (bytes_of_plan plan.now)) }
@@ -173,7 +175,7 @@ fn refuse_out_among_plan(
     refuse_out_among_files(system, options.out, &files)
 }
 
-/// All files of a plan at PATH, of which nothing is asked.
+/// All files of a plan at PATH, none of which was looked for.
 fn all_files(
     system: &HostRuntime,
     place: &str,

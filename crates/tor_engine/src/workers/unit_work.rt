@@ -31,7 +31,8 @@ pub(crate) trait UnitWork {
     /// The unit can be hashed.
     ghost may_hash: { Self → PlanUnit → Type 0 };
 
-    /// The source is steady by these facts, and has what was told of it.
+    /// The source is steady by these facts, and what the work builds on holds of it: what was told of its lengths, or where
+    /// its bytes fail.
     ghost is_steady: { Self → SourceFacts Self.Fault → Type 0 };
 
     /// The first fault of a unit.

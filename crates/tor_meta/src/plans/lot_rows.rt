@@ -1,4 +1,4 @@
-//! A torrent joined of a plan and its lots.
+//! The lots of a plan, read and judged, and their rows in the order of their numbers.
 ghost use Rattle.std.specs.Prelude.{◌≡◌, ◌≢◌, ◌⊎◌, ◌<◌, ◌≤◌, ◌+◌, [], ℕ, IfErr, IfOk, List, None, Option, length};
 ghost use Rattle.std.specs.Prelude.{replicate};
 ghost use Rattle.std.specs.Prelude.{slice_index, slice_index_or};

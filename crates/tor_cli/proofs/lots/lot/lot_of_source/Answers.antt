@@ -18,9 +18,15 @@ returns-clause-stopped g c =
     let gave = subst (λ (count : ℕ). IsGivenOwn (system_answers count) (lengths_of plan.listing.list.files) c.in-Err.error)
     c.requires.count c.in-Err.ensures.gave in
     subst (IsNoLot options (bytes_of_plan plan)) (sym (c.from-in-Err.ensures ∙ ap of_make_error c.from.ensures))
-    (no_lot options (bytes_of_plan plan) c.requires.allowed c.in-Err.error
-    (text_of_listing plan.listing, c.listing.ensures.lawful.told, refl, (gave, c.in-Err.ensures.of_lot)))
+    (no_lot options (bytes_of_plan plan) c.requires.allowed c.in-Err.error (
+      text_of_listing plan.listing,
+      c.listing.ensures.lawful.told,
+      refl,
+      c.listing.ensures.lawful.accepted,
+      (gave, c.in-Err.ensures.of_lot),
+    ))
 
 pub returns-in-Ok-clause-made : goal.returns-in-Ok-clause-made
 returns-in-Ok-clause-made g c =
-    (text_of_listing c.args.plan.now.listing, c.listing.ensures.lawful.told, refl, c.in-Ok.ensures.whole)
+    let lawful = c.listing.ensures.lawful in
+    (text_of_listing c.args.plan.now.listing, lawful.told, refl, lawful.accepted, c.in-Ok.ensures.whole)
