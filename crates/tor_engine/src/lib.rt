@@ -8,9 +8,9 @@
 //!   the sums of files, by `sum_unit` of `tor_sums`. [`work`]: one worker at a board, for callers with threads of their
 //!   own.
 //! - [`hash_pieces`] (`pieces.rt` and its folder): what each piece hashes to ([`PieceHash`]), of files that may be cut
-//!   short or missing; [`find_pieces`] tells their lengths too, and [`find_pieces_between`] does so for a run of pieces,
-//!   both with the hashes held unit by unit ([`PieceHashes`]). [`find_readable`]: the same as far as the pieces can be
-//!   read ([`ReadablePieces`]), and what could not be ([`ReadFault`]).
+//!   short or missing; [`find_pieces`] tells their lengths too, and [`find_pieces_between`] does so for a run of
+//!   pieces, both with the hashes held unit by unit ([`PieceHashes`]). [`find_readable`]: the same as far as the pieces
+//!   can be read ([`ReadablePieces`]), and what could not be ([`ReadFault`]).
 //! - [`hash_lot`] (`lot.rt`): the hashes of the pieces of some units ([`PieceRow`]), of which several machines each
 //!   hash others.
 //! - [`laws`] (`laws.rt`): laws over the definition of the first fault and over the hashes of units, and the limits of

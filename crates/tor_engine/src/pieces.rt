@@ -2,13 +2,13 @@
 //!
 //! - `piece_hash.rt`: what a piece hashes to; `piece_hashes.rt`: these of many pieces, held unit by unit;
 //!   `piece_run.rt`: a run of pieces, cut out of a plan.
-//! - `asked.rt` asks for the lengths, `present.rt` tells by them what is there, and `piece_work.rt` hashes the pieces of
-//!   a unit, one after the other, or together if the unit is wholly there (`together.rt`); `found_row.rt` holds what was
-//!   found of a unit. `busy.rt` tells how many workers have something to do.
+//! - `asked.rt` asks for the lengths, `present.rt` tells by them what is there, and `piece_work.rt` hashes the pieces
+//!   of a unit, one after the other, or together if the unit is wholly there (`together.rt`); `found_row.rt` holds what
+//!   was found of a unit. `busy.rt` tells how many workers have something to do.
 //! - `readable.rt`: the same as far as the pieces can be read, and each fault (`read_fault.rt`). `asking.rt` asks for
 //!   the lengths, `seen.rt` is the source without the files whose lengths fail, and `readable_work.rt` hashes a unit at
-//!   once, and after a fault each of its pieces by itself (`alone.rt`); `probing.rt` reads the parts of one that failed,
-//!   and `readable_unit.rt` holds what was found.
+//!   once, and after a fault each of its pieces by itself (`alone.rt`); `probing.rt` reads the parts of one that
+//!   failed, and `readable_unit.rt` holds what was found.
 ghost use Rattle.std.specs.Prelude.{◌≡◌, ◌^◌, ◌≤◌, ℕ, All, List, None, Option, IfErr, IfOk, IsSome, MatchResult};
 ghost use Rattle.std.specs.Prelude.{OnOk, length, nat_le};
 ghost use Rattle.std.specs.List.{list_any};

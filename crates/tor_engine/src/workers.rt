@@ -1,8 +1,8 @@
 //! Units shared among workers, whatever is done with them.
 //!
-//! - `units.rt`: the units of a plan hashed by one worker or by several. `unit_work.rt` says what a worker does with one.
-//! - `halves.rt`: work halved among threads. `turn.rt` deals the units out beforehand, and each worker takes its own one
-//!   after the other.
+//! - `units.rt`: the units of a plan hashed by one worker or by several. `unit_work.rt`: what a worker does with one.
+//! - `halves.rt`: work halved among threads. `turn.rt` deals the units out beforehand, and each worker takes its own
+//!   one after the other.
 //! - `shared_seat.rt`: a seat at a board for each worker, from which it claims one unit after the other (`taking.rt`);
 //!   `on_board.rt` puts what they took in the order of the units. `worker_share.rt`: one worker at a board, for callers
 //!   with threads of their own.

@@ -31,8 +31,7 @@ pub(crate) trait UnitWork {
     /// The unit can be hashed.
     ghost may_hash: { Self → PlanUnit → Type 0 };
 
-    /// The source is steady by these facts, and what the work builds on holds of it: what was told of its lengths, or where
-    /// its bytes fail.
+    /// The source is steady by these facts, and what the work builds on holds of it.
     ghost is_steady: { Self → SourceFacts Self.Fault → Type 0 };
 
     /// The first fault of a unit.
